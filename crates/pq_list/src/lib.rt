@@ -1,0 +1,85 @@
+//! A list with the room that was asked for: what the lists of the public surface are.
+#![tactic(auto)]
+
+ghost use Rattle.std.specs.Prelude.{◌≡◌, ◌<◌, [], ◌∷◌, ◌++◌, length, IfOk, vec_len};
+
+use std::alloc::{AllocError, Global};
+use std::marker::Model;
+
+/// A list of items, and the room that was asked for when it was made. Contracts see both: `items`
+/// and `room`. Items are appended while there are fewer than `room`, which takes no memory.
+#[derive(Drop)]
+pub struct RoomList<T> {
+    list: Vec<T>,
+    asked: u64,
+}
+
+impl<T> Model for RoomList<T> {
+    ghost use Rattle.std.specs.Prelude.{◌≤◌, vec_len, vec_capacity};
+    ghost use Rattle.pq_list.specs.Roomed.{Roomed};
+
+    ghost Value = { Roomed T };
+
+    ghost view = { λ a. record { items = a.list.items; room = a.asked } };
+
+    ghost invariant = { λ a. (vec_len a.list ≤ a.asked) × (a.asked ≤ vec_capacity a.list) };
+}
+
+impl<T> RoomList<T> {
+    /// An empty list with room for `room` items. The room is taken here, once.
+    pub fn with_room(alloc: Global, room: u64) -> Result<Self, AllocError>
+        ensures items { IfOk result (λ made. made.items ≡ []) }
+        ensures room { IfOk result (λ made. made.room ≡ room) }
+    {
+        let list = Vec::with_capacity(alloc, room as usize)?;
+        Ok(RoomList { list, asked: room })
+    }
+
+    /// The list of these items, with room for no more. It takes no memory.
+    pub fn of(items: Vec<T>) -> Self
+        ensures items { result.items ≡ items.items }
+        ensures room { result.room ≡ vec_len items }
+    {
+        let asked = items.len() as u64;
+        RoomList { list: items, asked }
+    }
+
+    /// The room that was asked for.
+    pub fn room(&self) -> u64
+        ensures { result ≡ self.now.room }
+    {
+        self.asked
+    }
+
+    /// Appends an item. It takes no memory.
+    pub fn push_kept(&mut self, item: T)
+        requires { length self.old.items < self.old.room }
+        ensures items { self.new.items ≡ self.old.items ++ item ∷ [] }
+        ensures room { self.new.room ≡ self.old.room }
+    {
+        self.list.push_reserved(item);
+    }
+
+    /// The items, in the order in which they were appended.
+    pub fn as_slice(&self) -> &[T]
+        ensures { result.now ≡ self.now.items }
+    {
+        self.list.as_slice()
+    }
+}
+
+#[cfg(test)]
+mod tests {
+    use super::*;
+
+    #[test]
+    fn items_are_kept_in_order_in_the_room(rt: HostRuntime) -> Result<(), AllocError> {
+        let mut list = RoomList::with_room(rt.alloc(), 2)?;
+        assert_eq!(rt; list.room(), 2);
+        assert!(rt; list.as_slice().is_empty());
+        list.push_kept(7u64);
+        list.push_kept(9);
+        assert!(rt; list.as_slice() == [7u64, 9].as_slice());
+        Ok(())
+    }
+}
