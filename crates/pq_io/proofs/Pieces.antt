@@ -1,11 +1,10 @@
 -- Bytes that are taken or put piece by piece.
-use Rattle.std.proofs.Common.{◌≡◌, ℕ, ◌+◌, ◌-◌, ◌<◌, ◌≤◌, min, List, [], ◌++◌, length, take, drop, Some, None, refl, sym, ap, ◌∙◌, subst, append-nil, arith}
+use Rattle.std.proofs.Common.{◌≡◌, ℕ, ◌+◌, ◌-◌, ◌<◌, ◌≤◌, min, List, [], ◌++◌, length, take, drop, sym, ap, ◌∙◌, subst, arith}
 use Rattle.std.specs.Prelude.{Option}
-use Rattle.std.specs.Io.KnownBytes.{Appends, Consumes, IsAtEnd}
+use Rattle.std.specs.Io.KnownBytes.{Appends, Consumes}
 use Rattle.std.proofs.KnownBytes.{Appends-trans, Consumes-trans}
 use Rattle.std.proofs.Math.Seq.{take-add}
-use Rattle.std.proofs.lemmas.List.{take_rest, take_at, drop_at, take-append-drop, drop-drop, length-append, length-take-le, length-drop, nil_from_length}
-use Rattle.pq_io.specs.Whole.{TakesAll, TakesFirst}
+use Rattle.std.proofs.lemmas.List.{take_rest, take_at, take-append-drop, drop-drop, length-take-le, length-drop, nil_from_length}
 
 -- A front of the text was put, and then a front of its rest.
 pub Appends-more : (before between after : Option (List ℕ)) (text : List ℕ) (sent count : ℕ) → Appends before between (take sent text)
@@ -20,19 +19,6 @@ pub Consumes-more : (before between after : Option (List ℕ)) (front buffer : L
 Consumes-more before between after front buffer filled count same taken more =
     subst (Consumes before after) (sym (take-add filled count buffer))
     (Consumes-trans before between after _ _ (subst (Consumes before between) (sym same) taken) more)
-
--- What was taken of known bytes is their front, as long as that.
-pub TakesFirst-Consumes : (before after : Option (List ℕ)) (bytes : List ℕ) (count : ℕ) → length bytes ≡ count → Consumes before after bytes → TakesFirst before after count
-TakesFirst-Consumes None after bytes count long taken = tt
-TakesFirst-Consumes (Some left) None bytes count long taken = absurd taken
-TakesFirst-Consumes (Some left) (Some rest) bytes count long taken =
-    (omega (arith, ap length taken, length-append bytes rest), ap Some (sym (ap (drop count) taken ∙ drop_at bytes rest count long)))
-
--- What was taken of known bytes is all of them where none is left.
-pub TakesAll-Consumes : (before after : Option (List ℕ)) (bytes : List ℕ) → Consumes before after bytes → IsAtEnd after → TakesAll before after bytes
-TakesAll-Consumes None after bytes taken ended = tt
-TakesAll-Consumes (Some left) None bytes taken ended = absurd taken
-TakesAll-Consumes (Some left) (Some rest) bytes taken ended = (sym (taken ∙ ap (λ l. bytes ++ l) ended ∙ append-nil bytes), ap Some ended)
 
 -- A call copied the front of what is left of the items from a place on, as much as there is of it, as there was room for, and as a step allows.
 pub record Copies (items into copied : List ℕ) (at step count : ℕ) : Type 0 where

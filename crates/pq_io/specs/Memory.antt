@@ -24,11 +24,22 @@ after_giving source count = record source { left = drop count source.left; calls
 abbrev pub after_failing : SourceInMemory → SourceInMemory
 after_failing source = record source { calls = counted source.calls; faults = counted source.faults }
 
--- A call fails exactly where its number stands among those that fail. Any other call gives the next bytes.
+-- A call gave the next bytes. Its number doesn't stand among those that fail.
+pub record GivesNext (old new : SourceInMemory) (into : List ℕ) (count : ℕ) : Type 0 where
+  pub works : ¬ Contains old.fails old.calls
+  pub number : count ≡ given_count old (length into)
+  pub bytes : take count into ≡ take count old.left
+  pub rest : new ≡ after_giving old count
+
+-- A call failed. Its number stands among those that fail.
+pub record FailsToGive (old new : SourceInMemory) : Type 0 where
+  pub cause : Contains old.fails old.calls
+  pub rest : new ≡ after_failing old
+
+-- the source before and after a call, what the call put into its room, and its answer
 abbrev pub TakesFrom : SourceInMemory → SourceInMemory → List ℕ → Result ℕ Failed → Type 0
-TakesFrom old new into (Ok count) = ¬ Contains old.fails old.calls × (count ≡ given_count old (length into)) × (take count into ≡ take count old.left)
-    × (new ≡ after_giving old count)
-TakesFrom old new into (Err _) = Contains old.fails old.calls × (new ≡ after_failing old)
+TakesFrom old new into (Ok count) = GivesNext old new into count
+TakesFrom old new into (Err _) = FailsToGive old new
 
 -- A sink in memory: the bytes that it holds, how many it has room for, how many a call takes at most, the numbers
 -- of the calls that fail, and how many calls and faults there were.
@@ -56,7 +67,19 @@ after_refusing sink = record sink { calls = counted sink.calls; faults = counted
 abbrev pub IsFull : SinkInMemory → Type 0
 IsFull sink = sink.room ≤ length sink.held
 
--- A call fails exactly where its number stands among those that fail, or no room is free. Any other call takes a front of the piece.
+-- A call took a front of the piece. Its number doesn't stand among those that fail, and some room was free.
+pub record KeepsFront (old new : SinkInMemory) (piece : List ℕ) (count : ℕ) : Type 0 where
+  pub works : ¬ Contains old.fails old.calls
+  pub room : ¬ IsFull old
+  pub number : count ≡ put_count old (length piece)
+  pub rest : new ≡ after_putting old (take count piece)
+
+-- A call failed. Its number stands among those that fail, or no room was free.
+pub record FailsToKeep (old new : SinkInMemory) : Type 0 where
+  pub cause : Contains old.fails old.calls ⊎ IsFull old
+  pub rest : new ≡ after_refusing old
+
+-- the sink before and after a call, the piece, and the answer
 abbrev pub PutsInto : SinkInMemory → SinkInMemory → List ℕ → Result ℕ Failed → Type 0
-PutsInto old new piece (Ok count) = ¬ Contains old.fails old.calls × ¬ IsFull old × (count ≡ put_count old (length piece)) × (new ≡ after_putting old (take count piece))
-PutsInto old new piece (Err _) = (Contains old.fails old.calls ⊎ IsFull old) × (new ≡ after_refusing old)
+PutsInto old new piece (Ok count) = KeepsFront old new piece count
+PutsInto old new piece (Err _) = FailsToKeep old new

@@ -34,6 +34,13 @@ impl<R: Read> ReadSource<R> {
     {
         ReadSource { reader, faults: 0 }
     }
+
+    /// How many calls failed. The count stops at 2^64 - 1.
+    pub fn faults(&self) -> u64
+        ensures { result ≡ self.now.faults }
+    {
+        self.faults
+    }
 }
 
 impl<R: Read> Source for ReadSource<R> {
@@ -87,6 +94,13 @@ impl<W: Write> WriteSink<W> {
         ensures faults { result.faults ≡ 0 }
     {
         WriteSink { writer, faults: 0 }
+    }
+
+    /// How many calls failed. The count stops at 2^64 - 1.
+    pub fn faults(&self) -> u64
+        ensures { result ≡ self.now.faults }
+    {
+        self.faults
     }
 }
 

@@ -4,11 +4,13 @@
 
 mod adapted;
 mod filling;
+mod laws;
 mod memory;
 mod stream;
 mod whole;
 
 pub use adapted::{ReadSource, WriteSink};
+pub use laws::{reading_is_settled, writing_is_settled};
 pub use memory::{MemSink, MemSource};
 pub use pq_list::RoomList;
 pub use stream::{Failed, Sink, Source};

@@ -51,6 +51,13 @@ impl MemSource {
             faults: 0,
         }
     }
+
+    /// How many calls failed. The count stops at 2^64 - 1.
+    pub fn faults(&self) -> u64
+        ensures { result ≡ self.now.faults }
+    {
+        self.faults
+    }
 }
 
 impl Source for MemSource {
@@ -146,6 +153,13 @@ impl MemSink {
         ensures { result.now ≡ self.now.held }
     {
         self.bytes.as_slice()
+    }
+
+    /// How many calls failed. The count stops at 2^64 - 1.
+    pub fn faults(&self) -> u64
+        ensures { result ≡ self.now.faults }
+    {
+        self.faults
     }
 }
 
