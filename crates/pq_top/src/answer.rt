@@ -49,20 +49,15 @@ pub fn work<S: Source, K: Sink>(
     }
     match read_whole(alloc, source, MAX_INPUT) {
         ReadWhole::Bytes(text) => match optimised(alloc, text.as_slice()) {
-            Ok(output) => write(sink, output.as_slice()),
+            Ok(output) => match write_whole(sink, output.as_slice()) {
+                Ok(()) => Answer::Done,
+                Err(fault) => Answer::WriteFault { sent: fault.sent },
+            },
             Err(TextFault::Form) => Answer::Refused(Refusal::Form),
             Err(TextFault::OutOfMemory) => Answer::OutOfMemory,
         },
         ReadWhole::Failed { taken } => Answer::ReadFault { taken },
         ReadWhole::TooLong => Answer::Refused(Refusal::TooLong),
         ReadWhole::OutOfMemory => Answer::OutOfMemory,
-    }
-}
-
-// Writes the output, whole.
-fn write<K: Sink>(sink: &mut K, output: &[u8]) -> Answer {
-    match write_whole(sink, output) {
-        Ok(()) => Answer::Done,
-        Err(fault) => Answer::WriteFault { sent: fault.sent },
     }
 }

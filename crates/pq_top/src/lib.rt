@@ -6,7 +6,7 @@ ghost use Rattle.std.specs.String.{string_bytes};
 ghost use Rattle.pq_top.specs.Device.{moved, HasFaulted, Noted};
 ghost use Rattle.pq_top.specs.Request.{AreGood, AreFaulty};
 ghost use Rattle.pq_top.specs.Optimised.{IsAccepted};
-ghost use Rattle.pq_top.specs.Notes.{out_of_memory_line};
+ghost use Rattle.pq_top.specs.Notes.{usage_line, out_of_memory_line};
 ghost use Rattle.pq_top.specs.Answers.{IsDone, IsUsage, IsRefused, IsReadFault, IsWriteFault, IsStatus, IsUnlessMemory};
 ghost use Rattle.pq_top.specs.Work.{status_of};
 
@@ -15,6 +15,11 @@ mod notes;
 mod optimise;
 mod thin;
 mod words;
+
+#[cfg(test)]
+mod tests;
+
+pub use words::UsageFault;
 
 use crate::answer::{Answer, work};
 use crate::notes::note;
@@ -72,6 +77,29 @@ pub fn run_popqc<R: Threads + Sync, S: Source, K: Sink, N: Sink>(
     ensures notes_unchanged { result ≡ 0 → notes.new ≡ notes.old }
 {
     let answer = work(alloc, words, source, sink);
+    note(notes, answer);
+    status(answer)
+}
+
+/// Why the arguments of the program can't be had as words.
+#[derive(Clone, Copy, Debug, PartialEq, Eq)]
+pub enum ArgumentFault {
+    /// One of them isn't text.
+    NotText,
+    OutOfMemory,
+}
+
+/// Notes that the arguments of the program can't be had, and answers the status to end with.
+pub fn refuse_arguments<N: Sink>(notes: &mut N, fault: ArgumentFault) -> u8
+    ensures not_text { fault ≡ ArgumentFault.NotText → (result ≡ 2)
+        × Noted (moved N.held N.faults notes.old notes.new) (usage_line UsageFault.Words) }
+    ensures out_of_memory { fault ≡ ArgumentFault.OutOfMemory → (result ≡ 6)
+        × Noted (moved N.held N.faults notes.old notes.new) out_of_memory_line }
+{
+    let answer = match fault {
+        ArgumentFault::NotText => Answer::Usage(UsageFault::Words),
+        ArgumentFault::OutOfMemory => Answer::OutOfMemory,
+    };
     note(notes, answer);
     status(answer)
 }

@@ -10,6 +10,7 @@ use pq_io::{Sink, write_whole};
 
 /// Puts the line of an answer into the notes; nothing where the work was done. A failing sink of notes
 /// changes nothing else.
+#[tactic(auto, unfolding(crate::specs::Notes::read_fault_line, crate::specs::Notes::write_fault_line, crate::specs::Notes::out_of_memory_line))]
 pub fn note<N: Sink>(notes: &mut N, answer: Answer)
     ensures noted { Noted (moved N.held N.faults notes.old notes.new) (note_line answer) }
     ensures quiet { answer ≡ Answer.Done → notes.new ≡ notes.old }
@@ -36,12 +37,14 @@ fn put<N: Sink>(notes: &mut N, pieces: &[&[u8]])
     ensures { Noted (moved N.held N.faults notes.old notes.new) (flat_map (λ piece. piece.now) pieces.now) }
 {
     for piece in pieces {
-        if write_whole(notes, piece).is_err() {
-            return;
+        match write_whole(notes, piece) {
+            Ok(()) => {}
+            Err(_) => return,
         }
     }
 }
 
+#[tactic(auto, unfolding(crate::specs::Notes::usage_line))]
 fn usage_text(fault: UsageFault) -> &'static [u8]
     ensures { result.now ≡ usage_line fault }
 {
@@ -52,6 +55,7 @@ fn usage_text(fault: UsageFault) -> &'static [u8]
     }
 }
 
+#[tactic(auto, unfolding(crate::specs::Notes::refusal_line))]
 fn refusal_text(refusal: Refusal) -> &'static [u8]
     ensures { result.now ≡ refusal_line refusal }
 {

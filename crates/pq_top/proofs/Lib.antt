@@ -1,0 +1,4 @@
+mod Noting
+mod Statuses
+mod OneRegister
+mod GateLines
