@@ -3,7 +3,7 @@ ghost use Rattle.pq_text.specs.Program.{RegisterView, places_of};
 ghost use Rattle.pq_text.specs.Print.{indexed, place, register_line};
 ghost use Rattle.pq_text.specs.WellFormed.{IsRegister};
 
-use crate::front::after;
+use crate::front::{after, after_mark};
 use crate::name::register_name_at;
 use crate::number::{number_before, push_number};
 use std::alloc::AllocError;
@@ -20,11 +20,14 @@ pub struct RegisterSpan<'a> {
 }
 
 impl<'a> Model for RegisterSpan<'a> {
+    ghost use Rattle.std.specs.Prelude.{◌^◌, ◌<◌};
     ghost use Rattle.pq_text.specs.Program.{RegisterView};
 
     ghost Value = { RegisterView };
 
     ghost view = { λ r. record { name = r.name.now; size = r.size } };
+
+    ghost invariant = { λ r. r.size < 2 ^ 32 };
 }
 
 impl<'a> RegisterSpan<'a> {
@@ -56,8 +59,9 @@ pub fn indexed_at<'t>(text: &'t [u8], name: &[u8]) -> Option<(u32, &'t [u8])>
         ((n : ℕ) (rest : List ℕ) → n < 2 ^ 32 → text.now ≢ indexed name.now n ++ rest) }
 {
     let rest = after(text, name)?;
-    let rest = after(rest, b"[")?;
-    number_before(rest, b']')
+    let rest = after_mark(rest, b'[')?;
+    let (index, rest) = number_before(rest, b']')?;
+    Some((index, rest))
 }
 
 /// Reads a wire or a bit of one register, written `NAME[INDEX]`, and the text `end` right after it,
@@ -70,6 +74,7 @@ pub fn place_at<'t>(
     ensures found { IfSome result
         (λ read. text.now ≡ indexed register.now.name read.0 ++ (end.now ++ read.1.now)) }
     ensures fits { IfSome result (λ read. read.0 < register.now.size) }
+    ensures size { register.now.size < 2 ^ 32 }
     ensures none { IfNone result
         ((n : ℕ) (rest : List ℕ) → n < register.now.size
             → text.now ≢ indexed register.now.name n ++ (end.now ++ rest)) }
