@@ -21,3 +21,6 @@ pub type ByteList = RoomList<u8>;
 
 /// A list of places.
 pub type PlaceList = RoomList<u64>;
+
+#[cfg(test)]
+mod tests;

@@ -40,7 +40,7 @@ pub fn read_whole<S: Source>(alloc: Global, source: &mut S, limit: u64) -> ReadW
 {
     let most = limit as usize + 1;
     let mut text = Filling::new(alloc);
-    while text.len() < most {
+    'taking: while text.len() < most {
         match text.take_from(source, most) {
             Ok(0) => return ReadWhole::Bytes(text.finish()),
             Ok(_) => {}
@@ -63,7 +63,7 @@ pub fn write_whole<K: Sink>(sink: &mut K, text: &[u8]) -> Result<(), WriteFault>
     ensures never_falls { K.faults sink.old ≤ K.faults sink.new }
 {
     let mut sent = 0;
-    while sent < text.len() {
+    'putting: while sent < text.len() {
         match sink.put(&text[sent..]) {
             Ok(count) => sent += count,
             Err(_) => return Err(WriteFault { sent: sent as u64 }),

@@ -4,12 +4,12 @@ use Rattle.std.specs.Prelude.{Option}
 use Rattle.std.specs.Io.KnownBytes.{Consumes}
 use Rattle.pq_io.proofs.whole.read_whole.Given as goal
 
-abbrev pub invariant-loop-text : goal.invariant-loop-text
-invariant-loop-text g l = record {
+abbrev pub invariant-taking : goal.invariant-taking
+invariant-taking g l = record {
   within : length l.text ≤ l.most;
   taken : Consumes (g.S.Source.left l.initial.source) (g.S.Source.left l.source) l.text;
   never_falls : g.S.Source.faults l.initial.source ≤ g.S.Source.faults l.source;
 }
 
-abbrev pub decreases-loop-text : goal.decreases-loop-text
-decreases-loop-text g l = l.most - length l.text
+abbrev pub decreases-taking : goal.decreases-taking
+decreases-taking g l = l.most - length l.text
