@@ -1,5 +1,7 @@
-ghost use Rattle.std.specs.Prelude.{◌≡◌, ◌≢◌, List, ℕ, ◌∷◌, ◌++◌, MatchOption};
+ghost use Rattle.std.specs.Prelude.{◌≡◌, ◌≢◌, List, ℕ, ◌∷◌, ◌++◌, MatchOption, OnOk};
 ghost use Rattle.pq_text.specs.Print.{header};
+
+use std::alloc::AllocError;
 
 /// What follows `front` in the text, or `None` where the text does not begin with it.
 pub fn after<'a>(text: &'a [u8], front: &[u8]) -> Option<&'a [u8]>
@@ -22,13 +24,21 @@ pub fn after_mark(text: &[u8], mark: u8) -> Option<&[u8]>
     }
 }
 
-#[tactic(auto, unfolding(crate::specs::Print::header))]
 /// What follows the two lines that each canonical text begins with, or `None` where the text does
 /// not begin with them.
+#[tactic(auto, unfolding(crate::specs::Print::header))]
 pub fn after_header(text: &[u8]) -> Option<&[u8]>
     ensures { MatchOption result
         ((rest : List ℕ) → text.now ≢ header ++ rest)
         (λ rest. text.now ≡ header ++ rest.now) }
 {
     after(text, b"OPENQASM 2.0;\ninclude \"qelib1.inc\";\n")
+}
+
+/// Appends the two lines that each canonical text begins with.
+#[tactic(auto, unfolding(crate::specs::Print::header))]
+pub fn push_header(out: &mut Vec<u8>) -> Result<(), AllocError>
+    ensures { OnOk result (out.new.items ≡ out.old.items ++ header) }
+{
+    out.extend_from_slice(b"OPENQASM 2.0;\ninclude \"qelib1.inc\";\n")
 }

@@ -1,4 +1,3 @@
 mod Noting
 mod Statuses
-mod OneRegister
-mod GateLines
+mod Refusing

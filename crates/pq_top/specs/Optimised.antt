@@ -1,14 +1,10 @@
 -- Which texts are accepted, and what is written for them.
-use Rattle.std.specs.Prelude.{◌≡◌, ℕ, ◌≤◌, List, [], ◌∷◌, length}
+use Rattle.std.specs.Prelude.{◌≡◌, ℕ, ◌≤◌, List, length}
 use Rattle.pq_gate.specs.declared.gate.Gate.{Gate}
-use Rattle.pq_text.specs.Program.{RegisterView, ProgramView}
+use Rattle.pq_text.specs.Program.{ProgramView}
 use Rattle.pq_text.specs.WellFormed.{IsThin}
 use Rattle.pq_text.specs.Print.{print}
 use Rattle.pq_oracle.specs.Cancelled.{Cancelled}
-
--- the program with one quantum register, no classical one and no tail
-abbrev pub thin_program : RegisterView → List Gate → ProgramView
-thin_program register gates = record { qregs = register ∷ []; cregs = []; gates = gates; tail = [] }
 
 -- the program with these gates in place of its own
 abbrev pub with_gates : ProgramView → List Gate → ProgramView

@@ -13,19 +13,17 @@ ghost use Rattle.pq_top.specs.Work.{status_of};
 mod answer;
 mod notes;
 mod optimise;
-mod thin;
-mod words;
-
 #[cfg(test)]
 mod tests;
-
-pub use words::UsageFault;
+mod thin;
+mod words;
 
 use crate::answer::{Answer, work};
 use crate::notes::note;
 use pq_io::{Sink, Source};
 use std::alloc::Global;
 use std::thread::Threads;
+pub use words::UsageFault;
 
 /// Does all that the program does: reads what the words after the program's name ask for and the text
 /// of a circuit, writes the text of the optimised circuit, and answers the status to end with.
@@ -37,6 +35,7 @@ use std::thread::Threads;
 ///
 /// The status is 0 where the work was done, 2 where the words have a fault, 3 where the text is
 /// refused, 4 where the source failed, 5 where the sink failed, and 6 where memory ran out.
+#[tactic(auto, using(crate::proofs::Statuses::refused))]
 pub fn run_popqc<R: Threads + Sync, S: Source, K: Sink, N: Sink>(
     _rt: &R,
     alloc: Global,
@@ -96,12 +95,12 @@ pub fn refuse_arguments<N: Sink>(notes: &mut N, fault: ArgumentFault) -> u8
     ensures out_of_memory { fault ≡ ArgumentFault.OutOfMemory → (result ≡ 6)
         × Noted (moved N.held N.faults notes.old notes.new) out_of_memory_line }
 {
-    let answer = match fault {
+    let refusal = match fault {
         ArgumentFault::NotText => Answer::Usage(UsageFault::Words),
         ArgumentFault::OutOfMemory => Answer::OutOfMemory,
     };
-    note(notes, answer);
-    status(answer)
+    note(notes, refusal);
+    status(refusal)
 }
 
 fn status(answer: Answer) -> u8

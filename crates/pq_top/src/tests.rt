@@ -1,3 +1,5 @@
+ghost use Rattle.std.specs.Prelude.{◌<◌};
+
 use crate::{ArgumentFault, refuse_arguments, run_popqc};
 use pq_io::{ByteList, MemSink, MemSource, PlaceList};
 use std::alloc::{AllocError, Global};
@@ -5,17 +7,18 @@ use std::process::Abort;
 use std::test::Fail;
 use std::thread::Threads;
 
-ghost use Rattle.std.specs.Prelude.{◌<◌};
-
 const HEADER: &str = "OPENQASM 2.0;\ninclude \"qelib1.inc\";\nqreg q[1];\n";
 
 const TWO_H: &str = "OPENQASM 2.0;\ninclude \"qelib1.inc\";\nqreg q[1];\nh q[0];\nh q[0];\n";
 
-const NESTED: &str = "OPENQASM 2.0;\ninclude \"qelib1.inc\";\nqreg q[1];\nh q[0];\nx q[0];\nx q[0];\nh q[0];\n";
+const NESTED: &str =
+    "OPENQASM 2.0;\ninclude \"qelib1.inc\";\nqreg q[1];\nh q[0];\nx q[0];\nx q[0];\nh q[0];\n";
 
-const MIXED: &str = "OPENQASM 2.0;\ninclude \"qelib1.inc\";\nqreg q[12];\nt q[0];\ncx q[10],q[11];\ncx q[10],q[11];\nsdg q[3];\n";
+const MIXED: &str =
+    "OPENQASM 2.0;\ninclude \"qelib1.inc\";\nqreg q[12];\nt q[0];\ncx q[10],q[11];\ncx q[10],q[11];\nsdg q[3];\n";
 
-const MIXED_LEFT: &str = "OPENQASM 2.0;\ninclude \"qelib1.inc\";\nqreg q[12];\nt q[0];\nsdg q[3];\n";
+const MIXED_LEFT: &str =
+    "OPENQASM 2.0;\ninclude \"qelib1.inc\";\nqreg q[12];\nt q[0];\nsdg q[3];\n";
 
 // A device: how many bytes a call moves at most, and which call fails.
 #[derive(Clone, Copy)]
@@ -29,15 +32,12 @@ const WHOLE: Device = Device {
     fails: None,
 };
 
-// What a run is given, and what it must answer, write and note.
-struct Case<'a> {
-    words: &'a [&'a str],
-    text: &'a str,
-    source: Device,
-    sink: Device,
+// What a run left behind.
+#[derive(Drop)]
+struct Outcome {
     status: u8,
-    output: &'a str,
-    note: &'a str,
+    sink: MemSink,
+    notes: MemSink,
 }
 
 fn list_of(alloc: Global, places: Option<u64>) -> Result<PlaceList, AllocError> {
@@ -56,39 +56,57 @@ fn words_of(alloc: Global, words: &[&str]) -> Result<Vec<String>, AllocError> {
     Ok(list)
 }
 
-fn runs(rt: &(impl Abort + AllocGlobal + Threads + Sync), case: Case<'_>) -> Result<(), AllocError>
-    requires source { 0 < case.source.step }
-    requires sink { 0 < case.sink.step }
+// Runs the words on the text, with steps and failing calls of the source and the sink.
+fn run(
+    rt: &(impl AllocGlobal + Threads + Sync),
+    words: &[&str],
+    text: &str,
+    source: Device,
+    sink: Device,
+) -> Result<Outcome, AllocError>
+    requires source { 0 < source.step }
+    requires sink { 0 < sink.step }
 {
     let alloc = rt.alloc();
-    let words = words_of(alloc, case.words)?;
-    let bytes = ByteList::of(Vec::from_slice(alloc, case.text.as_bytes())?);
-    let mut source = MemSource::new(bytes, case.source.step, list_of(alloc, case.source.fails)?);
-    let mut sink = MemSink::new(alloc, case.sink.step, 1000, list_of(alloc, case.sink.fails)?)?;
-    let mut notes = MemSink::new(alloc, 7, 1000, PlaceList::of(Vec::new(alloc)))?;
-    let status = run_popqc(rt, alloc, words.as_slice(), &mut source, &mut sink, &mut notes);
-    assert_eq!(rt; status, case.status, "{}", case.note);
-    assert!(rt; sink.held() == case.output.as_bytes(), "{}", case.note);
-    assert!(rt; notes.held() == case.note.as_bytes(), "{}", case.note);
-    Ok(())
+    let words = words_of(alloc, words)?;
+    let bytes = ByteList::of(Vec::from_slice(alloc, text.as_bytes())?);
+    let mut source = MemSource::new(bytes, source.step, list_of(alloc, source.fails)?);
+    let mut sink = MemSink::new(alloc, sink.step, 1000, list_of(alloc, sink.fails)?)?;
+    let mut notes = MemSink::new(alloc, 7, 1000, list_of(alloc, None)?)?;
+    let status = run_popqc(
+        rt,
+        alloc,
+        words.as_slice(),
+        &mut source,
+        &mut sink,
+        &mut notes,
+    );
+    Ok(Outcome {
+        status,
+        sink,
+        notes,
+    })
 }
 
-fn accepts(rt: &(impl Abort + AllocGlobal + Threads + Sync), step: u32, text: &str, output: &str) -> Result<(), AllocError>
+// Compares what a run left behind.
+fn expect(rt: &impl Abort, outcome: &Outcome, status: u8, output: &str, note: &str) {
+    assert_eq!(rt; outcome.status, status, "{note}");
+    assert!(rt; outcome.sink.held() == output.as_bytes(), "{note}");
+    assert!(rt; outcome.notes.held() == note.as_bytes(), "{note}");
+}
+
+fn accepts(
+    rt: &(impl Abort + AllocGlobal + Threads + Sync),
+    step: u32,
+    text: &str,
+    output: &str,
+) -> Result<(), AllocError>
     requires { 0 < step }
 {
     let device = Device { step, fails: None };
-    runs(
-        rt,
-        Case {
-            words: &["2"],
-            text,
-            source: device,
-            sink: device,
-            status: 0,
-            output,
-            note: "",
-        },
-    )
+    let outcome = run(rt, &["2"], text, device, device)?;
+    expect(rt, &outcome, 0, output, "");
+    Ok(())
 }
 
 #[test]
@@ -101,19 +119,14 @@ fn pairs_are_taken_out_of_a_text_in_steps_of_any_size(rt: HostRuntime) -> Result
     Ok(())
 }
 
-fn refuses_words(rt: &(impl Abort + AllocGlobal + Threads + Sync), words: &[&str], note: &str) -> Result<(), AllocError> {
-    runs(
-        rt,
-        Case {
-            words,
-            text: TWO_H,
-            source: WHOLE,
-            sink: WHOLE,
-            status: 2,
-            output: "",
-            note,
-        },
-    )
+fn refuses_words(
+    rt: &(impl Abort + AllocGlobal + Threads + Sync),
+    words: &[&str],
+    note: &str,
+) -> Result<(), AllocError> {
+    let outcome = run(rt, words, TWO_H, WHOLE, WHOLE)?;
+    expect(rt, &outcome, 2, "", note);
+    Ok(())
 }
 
 #[test]
@@ -122,28 +135,30 @@ fn faulty_words_are_named(rt: HostRuntime) -> Result<(), Fail> {
     refuses_words(&rt, &["2", "2"], "popqc: usage: words\n")?;
     refuses_words(&rt, &["abc"], "popqc: usage: number omega\n")?;
     refuses_words(&rt, &["+2"], "popqc: usage: number omega\n")?;
-    refuses_words(&rt, &["000000000000000000002"], "popqc: usage: number omega\n")?;
+    refuses_words(
+        &rt,
+        &["000000000000000000002"],
+        "popqc: usage: number omega\n",
+    )?;
     refuses_words(&rt, &["1"], "popqc: usage: range omega\n")?;
-    refuses_words(&rt, &["99999999999999999999"], "popqc: usage: range omega\n")?;
+    refuses_words(
+        &rt,
+        &["99999999999999999999"],
+        "popqc: usage: range omega\n",
+    )?;
     Ok(())
 }
 
-fn refuses(rt: &(impl Abort + AllocGlobal + Threads + Sync), lines: &str) -> Result<(), AllocError> {
+fn refuses(
+    rt: &(impl Abort + AllocGlobal + Threads + Sync),
+    lines: &str,
+) -> Result<(), AllocError> {
     let alloc = rt.alloc();
     let mut text = String::from_str(alloc, "OPENQASM 2.0;\ninclude \"qelib1.inc\";\n")?;
     text.push_str(lines)?;
-    runs(
-        rt,
-        Case {
-            words: &["2"],
-            text: text.as_str(),
-            source: WHOLE,
-            sink: WHOLE,
-            status: 3,
-            output: "",
-            note: "popqc: refused: form\n",
-        },
-    )
+    let outcome = run(rt, &["2"], text.as_str(), WHOLE, WHOLE)?;
+    expect(rt, &outcome, 3, "", "popqc: refused: form\n");
+    Ok(())
 }
 
 #[test]
@@ -169,36 +184,24 @@ fn texts_that_are_almost_canonical_are_refused(rt: HostRuntime) -> Result<(), Fa
 
 #[test]
 fn failing_devices_are_counted(rt: HostRuntime) -> Result<(), Fail> {
-    runs(
+    let failing = Device {
+        step: 16,
+        fails: Some(1),
+    };
+    let outcome = run(&rt, &["2"], TWO_H, WHOLE, failing)?;
+    expect(
         &rt,
-        Case {
-            words: &["2"],
-            text: TWO_H,
-            source: WHOLE,
-            sink: Device {
-                step: 16,
-                fails: Some(1),
-            },
-            status: 5,
-            output: "OPENQASM 2.0;\nin",
-            note: "popqc: write fault after 16 bytes\n",
-        },
-    )?;
-    runs(
-        &rt,
-        Case {
-            words: &["2"],
-            text: TWO_H,
-            source: Device {
-                step: 16,
-                fails: Some(0),
-            },
-            sink: WHOLE,
-            status: 4,
-            output: "",
-            note: "popqc: read fault after 0 bytes\n",
-        },
-    )?;
+        &outcome,
+        5,
+        "OPENQASM 2.0;\nin",
+        "popqc: write fault after 16 bytes\n",
+    );
+    let failing = Device {
+        step: 16,
+        fails: Some(0),
+    };
+    let outcome = run(&rt, &["2"], TWO_H, failing, WHOLE)?;
+    expect(&rt, &outcome, 4, "", "popqc: read fault after 0 bytes\n");
     Ok(())
 }
 
