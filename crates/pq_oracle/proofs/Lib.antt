@@ -1,0 +1,3 @@
+pub mod ArisesLaws
+pub mod OneMore
+pub mod Reduced

@@ -1,0 +1,2 @@
+pub use Rattle.pq_list.specs.Roomed
+pub mod Cancelled
