@@ -1,0 +1,4 @@
+pub mod Name
+pub mod Program
+pub mod Print
+pub mod WellFormed
