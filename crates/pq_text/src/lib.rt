@@ -1,13 +1,18 @@
-//! The canonical text of a circuit program: what it is, and the pieces of text that readers and
-//! writers share.
+//! The canonical text of a circuit program: which programs there are, what their text is, and the
+//! pieces of text that readers and writers share. Texts are bytes.
 #![tactic(auto)]
 
-ghost use Rattle.std.specs.Prelude.{◌≡◌, ℕ};
-ghost use Rattle.pq_text.specs.Program.{ProgramView};
-ghost use Rattle.pq_text.specs.Print.{print};
-ghost use Rattle.pq_text.specs.WellFormed.{WellFormed, IsThin};
+mod front;
+mod gate;
+mod name;
+mod number;
+mod register;
 
-pub fn same()
-    ensures { (p : ProgramView) → IsThin p → print p ≡ print p }
-{
-}
+pub use front::{after, after_header};
+pub use gate::{gate_line_at, push_gate_line};
+pub use name::{MAX_NAME, is_lawful_name, register_name_at};
+pub use number::{number_before, push_number};
+pub use register::{
+    MAX_PLACES, RegisterSpan, indexed_at, place_at, push_indexed, push_place, push_register_line,
+    register_line_at,
+};

@@ -1,0 +1,21 @@
+ghost use Rattle.std.specs.Prelude.{◌≡◌, ◌≢◌, List, ℕ, ◌++◌, MatchOption};
+ghost use Rattle.pq_text.specs.Print.{header};
+
+/// What follows `front` in the text, or `None` where the text does not begin with it.
+pub fn after<'a>(text: &'a [u8], front: &[u8]) -> Option<&'a [u8]>
+    ensures { MatchOption result
+        ((rest : List ℕ) → text.now ≢ front.now ++ rest)
+        (λ rest. text.now ≡ front.now ++ rest.now) }
+{
+    text.strip_prefix(front)
+}
+
+/// What follows the two lines that each canonical text begins with, or `None` where the text does
+/// not begin with them.
+pub fn after_header(text: &[u8]) -> Option<&[u8]>
+    ensures { MatchOption result
+        ((rest : List ℕ) → text.now ≢ header ++ rest)
+        (λ rest. text.now ≡ header ++ rest.now) }
+{
+    after(text, b"OPENQASM 2.0;\ninclude \"qelib1.inc\";\n")
+}

@@ -1,0 +1,58 @@
+ghost use Rattle.std.specs.Prelude.{◌≡◌, ◌≢◌, List, ℕ, ◌<◌, ◌≤◌, ◌^◌, ◌∷◌, ◌++◌, decimal, IfSome, IfNone, OnOk};
+ghost use Rattle.std.specs.Char.{IsNotAsciiDigit};
+ghost use Rattle.pq_text.specs.Digits.{IsDigitFront, IsTooGreat};
+
+use itoa::Buffer;
+use std::alloc::AllocError;
+
+/// Reads a decimal number below 2^32 without leading zeros, and the byte `mark` right after it, at
+/// the front of a text. Gives the number and what follows the mark.
+pub fn number_before(text: &[u8], mark: u8) -> Option<(u32, &[u8])>
+    requires { IsNotAsciiDigit mark }
+    ensures found { IfSome result (λ read. text.now ≡ decimal read.0 ++ mark ∷ read.1.now) }
+    ensures fits { IfSome result (λ read. read.0 < 2 ^ 32) }
+    ensures none { IfNone result
+        ((n : ℕ) (rest : List ℕ) → n < 2 ^ 32 → text.now ≢ decimal n ++ mark ∷ rest) }
+{
+    let (number, count) = number_at(text)?;
+    match &text[count..] {
+        [first, rest @ ..] if *first == mark => Some((number, rest)),
+        _ => None,
+    }
+}
+
+// The number at the front of a text, whose digits end there, and how many digits it has.
+fn number_at(text: &[u8]) -> Option<(u32, usize)> {
+    let (value, count) = digits_at(text)?;
+    if value > u64::from(u32::MAX) || count == 0 || (count > 1 && text[0] == b'0') {
+        return None;
+    }
+    Some((value as u32, count))
+}
+
+// The number that the digits at the front of a text stand for, and how many digits there are.
+fn digits_at(text: &[u8]) -> Option<(u64, usize)>
+    ensures found { IfSome result (λ read. IsDigitFront text.now read.1 read.0) }
+    ensures fits { IfSome result (λ read. read.0 < 2 ^ 64) }
+    ensures none { IfNone result (IsTooGreat text.now) }
+{
+    let mut value: u64 = 0;
+    for (count, byte) in text.iter().enumerate() {
+        if !byte.is_ascii_digit() {
+            return Some((value, count));
+        }
+        if value > u64::from(u32::MAX) {
+            return None;
+        }
+        value = value * 10 + u64::from(*byte - b'0');
+    }
+    Some((value, text.len()))
+}
+
+/// Appends a number in decimal.
+pub fn push_number(out: &mut Vec<u8>, number: u32) -> Result<(), AllocError>
+    ensures { OnOk result (out.new.items ≡ out.old.items ++ decimal number) }
+{
+    let mut buffer = Buffer::new();
+    out.extend_from_slice(buffer.format(number).as_bytes())
+}
