@@ -1,4 +1,4 @@
-ghost use Rattle.std.specs.Prelude.{◌≡◌, ◌≢◌, List, ℕ, ◌++◌, MatchOption};
+ghost use Rattle.std.specs.Prelude.{◌≡◌, ◌≢◌, List, ℕ, ◌∷◌, ◌++◌, MatchOption};
 ghost use Rattle.pq_text.specs.Print.{header};
 
 /// What follows `front` in the text, or `None` where the text does not begin with it.
@@ -10,6 +10,19 @@ pub fn after<'a>(text: &'a [u8], front: &[u8]) -> Option<&'a [u8]>
     text.strip_prefix(front)
 }
 
+/// What follows the byte `mark`, or `None` where the text does not begin with it.
+pub fn after_mark(text: &[u8], mark: u8) -> Option<&[u8]>
+    ensures { MatchOption result
+        ((rest : List ℕ) → text.now ≢ mark ∷ rest)
+        (λ rest. text.now ≡ mark ∷ rest.now) }
+{
+    match text {
+        [first, rest @ ..] if *first == mark => Some(rest),
+        _ => None,
+    }
+}
+
+#[tactic(auto, unfolding(crate::specs::Print::header))]
 /// What follows the two lines that each canonical text begins with, or `None` where the text does
 /// not begin with them.
 pub fn after_header(text: &[u8]) -> Option<&[u8]>

@@ -1,4 +1,4 @@
-ghost use Rattle.std.specs.Prelude.{◌≡◌, ◌≢◌, List, ℕ, [], ◌<◌, ◌≤◌, ◌^◌, ◌∷◌, ◌++◌, codes, IfSome, IfNone, OnOk};
+ghost use Rattle.std.specs.Prelude.{◌≡◌, ◌≢◌, List, ℕ, [], ◌<◌, ◌≤◌, ◌^◌, ◌∷◌, ◌++◌, length, codes, IfSome, IfNone, OnOk};
 ghost use Rattle.pq_gate.specs.declared.gate.Gate.{Gate};
 ghost use Rattle.pq_gate.specs.Circuit.{IsOnWires};
 ghost use Rattle.pq_text.specs.Program.{RegisterView, places_of};
@@ -26,16 +26,46 @@ fn word_at(text: &[u8]) -> Option<(Word, &[u8])>
         ((word : Word) (rest : List ℕ) → text.now ≢ word_text word ++ 32 ∷ rest) }
 {
     match text {
-        [b'h', b' ', rest @ ..] => Some((Word::H, rest)),
-        [b'x', b' ', rest @ ..] => Some((Word::X, rest)),
-        [b'c', b'x', b' ', rest @ ..] => Some((Word::Cx, rest)),
-        [b't', b' ', rest @ ..] => Some((Word::Phase(Eighths::T), rest)),
-        [b's', b' ', rest @ ..] => Some((Word::Phase(Eighths::S), rest)),
-        [b'z', b' ', rest @ ..] => Some((Word::Phase(Eighths::Z), rest)),
-        [b's', b'd', b'g', b' ', rest @ ..] => Some((Word::Phase(Eighths::Sdg), rest)),
-        [b't', b'd', b'g', b' ', rest @ ..] => Some((Word::Phase(Eighths::Tdg), rest)),
+        [letter, b' ', rest @ ..] => {
+            let word = one_letter_word(*letter)?;
+            Some((word, rest))
+        }
+        _ => longer_word_at(text),
+    }
+}
+
+// The word of one letter.
+fn one_letter_word(letter: u8) -> Option<Word>
+    ensures found { IfSome result (λ word. word_text word ≡ letter ∷ []) }
+    ensures none { IfNone result ((word : Word) → word_text word ≢ letter ∷ []) }
+{
+    match letter {
+        b'h' => Some(Word::H),
+        b't' => Some(Word::Phase(Eighths::T)),
+        b's' => Some(Word::Phase(Eighths::S)),
+        b'z' => Some(Word::Phase(Eighths::Z)),
+        b'x' => Some(Word::X),
         _ => None,
     }
+}
+
+// A word of more than one letter and the space after it at the front of a text, and what follows.
+fn longer_word_at(text: &[u8]) -> Option<(Word, &[u8])>
+    ensures found { IfSome result (λ read. text.now ≡ word_text read.0 ++ 32 ∷ read.1.now) }
+    ensures none { IfNone result
+        ((word : Word) (rest : List ℕ) → 1 < length (word_text word)
+            → text.now ≢ word_text word ++ 32 ∷ rest) }
+{
+    if let Some(rest) = after(text, b"cx ") {
+        return Some((Word::Cx, rest));
+    }
+    if let Some(rest) = after(text, b"tdg ") {
+        return Some((Word::Phase(Eighths::Tdg), rest));
+    }
+    if let Some(rest) = after(text, b"sdg ") {
+        return Some((Word::Phase(Eighths::Sdg), rest));
+    }
+    None
 }
 
 /// Reads the line of a gate on the wires of one register at the front of a text. Gives the gate and

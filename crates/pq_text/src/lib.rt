@@ -8,7 +8,7 @@ mod name;
 mod number;
 mod register;
 
-pub use front::{after, after_header};
+pub use front::{after, after_header, after_mark};
 pub use gate::{gate_line_at, push_gate_line};
 pub use name::{MAX_NAME, is_lawful_name, register_name_at};
 pub use number::{number_before, push_number};

@@ -1,7 +1,8 @@
-ghost use Rattle.std.specs.Prelude.{◌≡◌, ◌≢◌, List, ℕ, ◌<◌, ◌≤◌, ◌^◌, ◌∷◌, ◌++◌, decimal, IfSome, IfNone, OnOk};
+ghost use Rattle.std.specs.Prelude.{◌≡◌, ◌≢◌, List, ℕ, ◌<◌, ◌≤◌, ◌^◌, ◌∷◌, ◌++◌, ◌↔◌, length, slice_index, decimal, IsTrue, IfSome, IfNone, OnOk};
 ghost use Rattle.std.specs.Char.{IsNotAsciiDigit};
-ghost use Rattle.pq_text.specs.Digits.{IsDigitFront, IsTooGreat};
+ghost use Rattle.pq_text.specs.Digits.{IsDigitFront, IsTooGreat, IsNumberFront};
 
+use crate::front::after_mark;
 use itoa::Buffer;
 use std::alloc::AllocError;
 
@@ -15,19 +16,29 @@ pub fn number_before(text: &[u8], mark: u8) -> Option<(u32, &[u8])>
         ((n : ℕ) (rest : List ℕ) → n < 2 ^ 32 → text.now ≢ decimal n ++ mark ∷ rest) }
 {
     let (number, count) = number_at(text)?;
-    match &text[count..] {
-        [first, rest @ ..] if *first == mark => Some((number, rest)),
-        _ => None,
-    }
+    let rest = after_mark(&text[count..], mark)?;
+    Some((number, rest))
 }
 
-// The number at the front of a text, whose digits end there, and how many digits it has.
-fn number_at(text: &[u8]) -> Option<(u32, usize)> {
+// The number at the front of a text, and how many digits it has.
+fn number_at(text: &[u8]) -> Option<(u32, usize)>
+    ensures found { IfSome result (λ read. IsNumberFront text.now read.1 read.0) }
+    ensures none { IfNone result
+        ((n mark : ℕ) (rest : List ℕ) → n < 2 ^ 32 → IsNotAsciiDigit mark
+            → text.now ≢ decimal n ++ mark ∷ rest) }
+{
     let (value, count) = digits_at(text)?;
-    if value > u64::from(u32::MAX) || count == 0 || (count > 1 && text[0] == b'0') {
+    if value > u64::from(u32::MAX) || count == 0 || has_leading_zero(text, count) {
         return None;
     }
     Some((value as u32, count))
+}
+
+fn has_leading_zero(text: &[u8], count: usize) -> bool
+    requires { count ≤ length text.now }
+    ensures { IsTrue result ↔ (1 < count) × (slice_index text.now 0 ≡ 48) }
+{
+    count > 1 && text[0] == b'0'
 }
 
 // The number that the digits at the front of a text stand for, and how many digits there are.

@@ -3,7 +3,7 @@ ghost use Rattle.pq_text.specs.Program.{RegisterView, places_of};
 ghost use Rattle.pq_text.specs.Print.{indexed, place, register_line};
 ghost use Rattle.pq_text.specs.WellFormed.{IsRegister};
 
-use crate::front::after;
+use crate::front::{after, after_mark};
 use crate::name::register_name_at;
 use crate::number::{number_before, push_number};
 use std::alloc::AllocError;
@@ -56,7 +56,7 @@ pub fn indexed_at<'t>(text: &'t [u8], name: &[u8]) -> Option<(u32, &'t [u8])>
         ((n : ℕ) (rest : List ℕ) → n < 2 ^ 32 → text.now ≢ indexed name.now n ++ rest) }
 {
     let rest = after(text, name)?;
-    let rest = after(rest, b"[")?;
+    let rest = after_mark(rest, b'[')?;
     number_before(rest, b']')
 }
 
