@@ -1,2 +1,5 @@
-pub mod Numbers
+pub mod Cuts
+pub mod Lines
 pub mod Names
+pub mod Numbers
+pub mod Places

@@ -20,11 +20,14 @@ pub struct RegisterSpan<'a> {
 }
 
 impl<'a> Model for RegisterSpan<'a> {
+    ghost use Rattle.std.specs.Prelude.{◌^◌, ◌<◌};
     ghost use Rattle.pq_text.specs.Program.{RegisterView};
 
     ghost Value = { RegisterView };
 
     ghost view = { λ r. record { name = r.name.now; size = r.size } };
+
+    ghost invariant = { λ r. r.size < 2 ^ 32 };
 }
 
 impl<'a> RegisterSpan<'a> {
@@ -57,7 +60,8 @@ pub fn indexed_at<'t>(text: &'t [u8], name: &[u8]) -> Option<(u32, &'t [u8])>
 {
     let rest = after(text, name)?;
     let rest = after_mark(rest, b'[')?;
-    number_before(rest, b']')
+    let (index, rest) = number_before(rest, b']')?;
+    Some((index, rest))
 }
 
 /// Reads a wire or a bit of one register, written `NAME[INDEX]`, and the text `end` right after it,
