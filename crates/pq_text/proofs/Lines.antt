@@ -12,7 +12,7 @@ use Rattle.pq_text.specs.Program.{RegisterView}
 use Rattle.pq_text.specs.Print.{indexed, place, statement, phase_word, gate_word, gate_arguments, gate_line}
 use Rattle.pq_text.specs.Words.{word_text}
 use Rattle.pq_text.proofs.Cuts.{SameCut, cut_once, without_mark}
-use Rattle.pq_text.proofs.Places.{SameNumber, indexed_once, place_of_one}
+use Rattle.pq_text.proofs.Places.{SameNumber, indexed_once, place_of_one, tail_of}
 
 -- the word of a gate's line
 abbrev pub kind : Gate → Word
@@ -94,10 +94,10 @@ after_one r w rest = indexed r.name w ++ (codes ";\n" ++ rest)
 abbrev pub after_two : RegisterView → ℕ → ℕ → List ℕ → List ℕ
 after_two r v w rest = indexed r.name v ++ (codes "," ++ (indexed r.name w ++ (codes ";\n" ++ rest)))
 
-one_argument : (r : RegisterView) (w : ℕ) (rest : List ℕ) → w < r.size → (place (r ∷ []) w ++ codes ";\n") ++ rest ≡ after_one r w rest
+pub one_argument : (r : RegisterView) (w : ℕ) (rest : List ℕ) → w < r.size → (place (r ∷ []) w ++ codes ";\n") ++ rest ≡ after_one r w rest
 one_argument r w rest inside = rw (place_of_one r w inside) (append_assoc (indexed r.name w) (codes ";\n") rest)
 
-two_arguments : (r : RegisterView) (v w : ℕ) (rest : List ℕ) → v < r.size → w < r.size → ((place (r ∷ []) v ++ (44 ∷ place (r ∷ []) w)) ++ codes ";\n") ++ rest ≡ after_two r v w rest
+pub two_arguments : (r : RegisterView) (v w : ℕ) (rest : List ℕ) → v < r.size → w < r.size → ((place (r ∷ []) v ++ (44 ∷ place (r ∷ []) w)) ++ codes ";\n") ++ rest ≡ after_two r v w rest
 two_arguments r v w rest first second =
     rw (place_of_one r v first, place_of_one r w second)
     (append_assoc (indexed r.name v ++ (44 ∷ indexed r.name w)) (codes ";\n") rest
@@ -112,14 +112,6 @@ pub record IsPair (r : RegisterView) (g : Gate) (text rest : List ℕ) : Type 0 
   pub second : target < r.size
   pub apart : control ≢ target
   pub reads : text ≡ after_two r control target rest
-
--- the wire of a gate that has one, from its line
-pub record IsOne (r : RegisterView) (g : Gate) (text rest : List ℕ) : Type 0 where
-  pub wire : ℕ
-  pub is : gate_arguments g ≡ wire ∷ []
-  pub inside : wire < r.size
-  pub reads : text ≡ after_one r wire rest
-
 
 -- a line that begins with the word of a CX is that of a CX
 pub pair_of : (r : RegisterView) (g : Gate) (text rest : List ℕ) → IsOnWires r.size g → kind g ≡ WordCx → text ≡ (join_with_byte 44 (map (place (r ∷ [])) (gate_arguments g)) ++ codes ";\n") ++ rest → IsPair r g text rest
@@ -136,3 +128,22 @@ pair_of r (Cx control target) text rest on is e =
       apart = on.2;
       reads = e ∙ two_arguments r control target rest on.0 on.1;
     }
+
+-- what a line that begins so has after its word
+pub cx_reads : (r : RegisterView) (g : Gate) (text after rest : List ℕ) → IsOnWires r.size g → text ≡ word_text WordCx ++ 32 ∷ after → text ≡ gate_line (r ∷ []) g ++ rest → IsPair r g after rest
+cx_reads r g text after rest on cut e =
+    let once = word_once WordCx (kind g) after ((join_with_byte 44 (map (place (r ∷ [])) (gate_arguments g)) ++ codes ";\n") ++ rest) (sym cut ∙ (e ∙ line_begins (r ∷ []) g rest)) in
+    pair_of r g after rest on (sym once.word) once.rest
+
+-- the control that was read is that of the gate, and what follows its comma is known
+pub control_reads : (r : RegisterView) (g : Gate) (after rest later : List ℕ) (control : ℕ) (p : IsPair r g after rest) → r.size < 2 ^ 32 → control < r.size → after ≡ indexed r.name control ++ (44 ∷ later) → SameNumber control p.control later (after_one r p.target rest)
+control_reads r g after rest later control p small inside e =
+    let once = indexed_once r.name (44 ∷ later) (44 ∷ after_one r p.target rest) control p.control (omega arith) (omega (arith, p.first)) (sym e ∙ p.reads) in
+    record { number = once.number; rest = tail_of 44 44 later (after_one r p.target rest) once.rest }
+
+-- a gate with one wire twice has no line
+pub no_pair : (r : RegisterView) (g : Gate) (after rest later last : List ℕ) (control target : ℕ) (p : IsPair r g after rest) → r.size < 2 ^ 32 → control < r.size → target < r.size → after ≡ indexed r.name control ++ (44 ∷ later) → later ≡ indexed r.name target ++ (codes ";\n" ++ last) → control ≡ target → ⊥
+no_pair r g after rest later last control target p small first second e f same =
+    let once = control_reads r g after rest later control p small first e in
+    let again = indexed_once r.name (codes ";\n" ++ last) (codes ";\n" ++ rest) target p.target (omega arith) (omega (arith, p.second)) (sym f ∙ once.rest) in
+    p.apart (sym once.number ∙ same ∙ again.number)

@@ -17,7 +17,7 @@ front_of : (text front rest : List ℕ) → text ≡ front ++ rest → (take (le
 front_of text front rest e =
     (ap (take (length front)) e ∙ take_at front rest (length front) refl, ap (drop (length front)) e ∙ drop_at front rest (length front) refl)
 
-tail_of : (a b : ℕ) (x y : List ℕ) → a ∷ x ≡ b ∷ y → x ≡ y
+pub tail_of : (a b : ℕ) (x y : List ℕ) → a ∷ x ≡ b ∷ y → x ≡ y
 tail_of a b x y e = cc
 
 pub number_once : (mark m n : ℕ) (x y : List ℕ) → IsNotAsciiDigit mark → m < 2 ^ 32 → n < 2 ^ 32 → decimal m ++ mark ∷ x ≡ decimal n ++ mark ∷ y → SameNumber m n x y

@@ -74,6 +74,7 @@ pub fn place_at<'t>(
     ensures found { IfSome result
         (λ read. text.now ≡ indexed register.now.name read.0 ++ (end.now ++ read.1.now)) }
     ensures fits { IfSome result (λ read. read.0 < register.now.size) }
+    ensures size { register.now.size < 2 ^ 32 }
     ensures none { IfNone result
         ((n : ℕ) (rest : List ℕ) → n < register.now.size
             → text.now ≢ indexed register.now.name n ++ (end.now ++ rest)) }
