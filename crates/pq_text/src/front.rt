@@ -1,5 +1,9 @@
-ghost use Rattle.std.specs.Prelude.{◌≡◌, ◌≢◌, List, ℕ, ◌∷◌, ◌++◌, MatchOption};
+ghost use Rattle.std.specs.Prelude.{◌≡◌, ◌≢◌, List, ℕ, ◌∷◌, ◌++◌, OnOk, MatchOption};
 ghost use Rattle.pq_text.specs.Print.{header};
+
+use std::alloc::AllocError;
+
+const HEADER: &[u8] = b"OPENQASM 2.0;\ninclude \"qelib1.inc\";\n";
 
 /// What follows `front` in the text, or `None` where the text does not begin with it.
 pub fn after<'a>(text: &'a [u8], front: &[u8]) -> Option<&'a [u8]>
@@ -30,5 +34,13 @@ pub fn after_header(text: &[u8]) -> Option<&[u8]>
         ((rest : List ℕ) → text.now ≢ header ++ rest)
         (λ rest. text.now ≡ header ++ rest.now) }
 {
-    after(text, b"OPENQASM 2.0;\ninclude \"qelib1.inc\";\n")
+    after(text, HEADER)
+}
+
+#[tactic(auto, unfolding(crate::specs::Print::header))]
+/// Appends these two lines.
+pub fn push_header(out: &mut Vec<u8>) -> Result<(), AllocError>
+    ensures { OnOk result (out.new.items ≡ out.old.items ++ header) }
+{
+    out.extend_from_slice(HEADER)
 }

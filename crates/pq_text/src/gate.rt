@@ -54,7 +54,7 @@ fn longer_word_at(text: &[u8]) -> Option<(Word, &[u8])>
     ensures found { IfSome result (λ read. text.now ≡ word_text read.0 ++ 32 ∷ read.1.now) }
     ensures none { IfNone result
         ((word : Word) (rest : List ℕ) → 1 < length (word_text word)
-            → text.now ≢ word_text word ++ 32 ∷ rest) }
+        → text.now ≢ word_text word ++ 32 ∷ rest) }
 {
     if let Some(rest) = after(text, b"cx ") {
         return Some((Word::Cx, rest));
@@ -76,7 +76,7 @@ pub fn gate_line_at<'t>(text: &'t [u8], register: &RegisterSpan) -> Option<(Gate
     ensures fits { IfSome result (λ read. IsOnWires register.now.size read.0) }
     ensures none { IfNone result
         ((gate : Gate) (rest : List ℕ) → IsOnWires register.now.size gate
-            → text.now ≢ gate_line (register.now ∷ []) gate ++ rest) }
+        → text.now ≢ gate_line (register.now ∷ []) gate ++ rest) }
 {
     let (word, rest) = word_at(text)?;
     match word {

@@ -9,7 +9,7 @@ mod name;
 mod number;
 mod register;
 
-pub use front::{after, after_header, after_mark};
+pub use front::{after, after_header, after_mark, push_header};
 pub use gate::{gate_line_at, push_gate_line};
 pub use laws::{
     gate_lines_are_apart, indices_are_apart, numbers_are_apart, thin_has_parts,
@@ -21,3 +21,6 @@ pub use register::{
     MAX_PLACES, RegisterSpan, indexed_at, place_at, push_indexed, push_place, push_register_line,
     register_line_at,
 };
+
+#[cfg(test)]
+mod tests;

@@ -25,7 +25,7 @@ fn number_at(text: &[u8]) -> Option<(u32, usize)>
     ensures found { IfSome result (λ read. IsNumberFront text.now read.1 read.0) }
     ensures none { IfNone result
         ((n mark : ℕ) (rest : List ℕ) → n < 2 ^ 32 → IsNotAsciiDigit mark
-            → text.now ≢ decimal n ++ mark ∷ rest) }
+        → text.now ≢ decimal n ++ mark ∷ rest) }
 {
     let (value, count) = digits_at(text)?;
     if value > u64::from(u32::MAX) || count == 0 || has_leading_zero(text, count) {

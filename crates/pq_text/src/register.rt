@@ -66,18 +66,14 @@ pub fn indexed_at<'t>(text: &'t [u8], name: &[u8]) -> Option<(u32, &'t [u8])>
 
 /// Reads a wire or a bit of one register, written `NAME[INDEX]`, and the text `end` right after it,
 /// at the front of a text. Gives the index and what follows the end.
-pub fn place_at<'t>(
-    text: &'t [u8],
-    register: &RegisterSpan,
-    end: &[u8],
-) -> Option<(u32, &'t [u8])>
+pub fn place_at<'t>(text: &'t [u8], register: &RegisterSpan, end: &[u8]) -> Option<(u32, &'t [u8])>
     ensures found { IfSome result
         (λ read. text.now ≡ indexed register.now.name read.0 ++ (end.now ++ read.1.now)) }
     ensures fits { IfSome result (λ read. read.0 < register.now.size) }
     ensures size { register.now.size < 2 ^ 32 }
     ensures none { IfNone result
         ((n : ℕ) (rest : List ℕ) → n < register.now.size
-            → text.now ≢ indexed register.now.name n ++ (end.now ++ rest)) }
+        → text.now ≢ indexed register.now.name n ++ (end.now ++ rest)) }
 {
     let (index, rest) = indexed_at(text, register.name)?;
     if index >= register.size {
@@ -96,7 +92,7 @@ pub fn register_line_at(text: &[u8]) -> Option<(RegisterSpan<'_>, &[u8])>
     ensures limit { IfSome result (λ read. read.0.size ≤ 4096) }
     ensures none { IfNone result
         ((r : RegisterView) (rest : List ℕ) → IsRegister r → r.size ≤ 4096
-            → text.now ≢ register_line (codes "qreg") r ++ rest) }
+        → text.now ≢ register_line (codes "qreg") r ++ rest) }
 {
     let rest = after(text, b"qreg ")?;
     let (name, rest) = register_name_at(rest)?;
