@@ -6,6 +6,7 @@ use std::alloc::AllocError;
 const HEADER: &[u8] = b"OPENQASM 2.0;\ninclude \"qelib1.inc\";\n";
 
 /// What follows `front` in the text, or `None` where the text does not begin with it.
+#[inline]
 pub fn after<'a>(text: &'a [u8], front: &[u8]) -> Option<&'a [u8]>
     ensures { MatchOption result
         ((rest : List ℕ) → text.now ≢ front.now ++ rest)
@@ -15,6 +16,7 @@ pub fn after<'a>(text: &'a [u8], front: &[u8]) -> Option<&'a [u8]>
 }
 
 /// What follows the byte `mark`, or `None` where the text does not begin with it.
+#[inline]
 pub fn after_mark(text: &[u8], mark: u8) -> Option<&[u8]>
     ensures { MatchOption result
         ((rest : List ℕ) → text.now ≢ mark ∷ rest)
@@ -26,9 +28,9 @@ pub fn after_mark(text: &[u8], mark: u8) -> Option<&[u8]>
     }
 }
 
-#[tactic(auto, unfolding(crate::specs::Print::header))]
 /// What follows the two lines that each canonical text begins with, or `None` where the text does
 /// not begin with them.
+#[tactic(auto, unfolding(crate::specs::Print::header))]
 pub fn after_header(text: &[u8]) -> Option<&[u8]>
     ensures { MatchOption result
         ((rest : List ℕ) → text.now ≢ header ++ rest)
@@ -37,8 +39,8 @@ pub fn after_header(text: &[u8]) -> Option<&[u8]>
     after(text, HEADER)
 }
 
+/// Appends the two lines that each canonical text begins with.
 #[tactic(auto, unfolding(crate::specs::Print::header))]
-/// Appends these two lines.
 pub fn push_header(out: &mut Vec<u8>) -> Result<(), AllocError>
     ensures { OnOk result (out.new.items ≡ out.old.items ++ header) }
 {
