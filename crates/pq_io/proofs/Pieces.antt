@@ -27,6 +27,7 @@ pub record Copies (items into copied : List ℕ) (at step count : ℕ) : Type 0 
   pub number : count ≡ min step (min (length into) (length (take (length items - at) (drop at items))))
   pub bytes : copied ≡ take count (take (length items - at) (drop at items)) ++ drop count into
 
+-- What is left splits into what was copied and the rest.
 pub Copies-front : (items into copied : List ℕ) (at step count : ℕ) → Copies items into copied at step count → drop at items ≡ take count copied ++ drop (at + count) items
 Copies-front items into copied at step count h =
     let left = drop at items in
@@ -36,6 +37,7 @@ Copies-front items into copied at step count h =
     ap (take count) (h.bytes ∙ ap (λ l. take count l ++ drop count into) all) ∙ take_at (take count left) (drop count into) count (length-take-le count left short) in
     sym (take-append-drop count left) ∙ ap (λ l. take count left ++ l) (drop-drop count at items) ∙ ap (λ l. l ++ drop (at + count) items) (sym front)
 
+-- Where there was room and nothing was copied, nothing is left.
 pub Copies-end : (items into copied : List ℕ) (at step count : ℕ) → Copies items into copied at step count → 0 < length into → count ≡ 0 → drop (at + count) items ≡ []
 Copies-end items into copied at step count h room none =
     let all = take_rest items at in

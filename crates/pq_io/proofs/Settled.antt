@@ -1,12 +1,7 @@
 -- Where no fault comes, reading and writing as a whole have one answer.
-use Rattle.std.proofs.Common.{◌≡◌, ℕ, ◌<◌, ◌≤◌, List, length, Some, Ok, Err, refl, ap, arith}
-use Rattle.std.specs.Prelude.{Option, Result, IsOk}
-use Rattle.pq_io.specs.Faults.{Rose}
-use Rattle.pq_io.specs.Whole.{ReadsWhole, WritesWhole}
-use Rattle.pq_io.specs.Settled.{IsAnswerTo, ReadingIsSettled, WritingIsSettled}
-use Rattle.pq_io.specs.declared.whole.ReadWhole.{ReadWhole}
+use Rattle.std.proofs.Common.{length, Ok, Err, refl, ap, arith}
+use Rattle.pq_io.specs.Settled.{ReadingIsSettled, WritingIsSettled}
 use Rattle.pq_io.specs.declared.whole.ReadWhole.TheVariants.{Bytes, Failed, TooLong, OutOfMemory}
-use Rattle.pq_io.specs.declared.whole.WriteFault.{WriteFault}
 
 pub reading_is_settled : ReadingIsSettled
 reading_is_settled left after was now limit (Bytes read) steady h = (omega (arith, h.within, ap length h.taken.0), h.taken.0)

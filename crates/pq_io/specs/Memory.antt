@@ -1,5 +1,5 @@
 -- Sources and sinks in memory, as contracts see them.
-use Rattle.std.specs.Prelude.{◌≡◌, ℕ, ◌-◌, ◌<◌, ◌≤◌, ◌⊎◌, min, List, ◌++◌, length, take, drop, Contains, Result, Ok, Err}
+use Rattle.std.specs.Prelude.{◌≡◌, ℕ, ◌-◌, ◌≤◌, ◌⊎◌, min, List, ◌++◌, length, take, drop, Contains, Result, Ok, Err}
 use Rattle.pq_io.specs.Faults.{counted}
 use Rattle.pq_io.specs.declared.stream.Failed.{Failed}
 

@@ -12,11 +12,13 @@ are_pair (X v) (X w) = eqb v w
 are_pair (Cx a b) (Cx c d) = eqb a c && eqb b d
 are_pair _ _ = false
 
+-- two tests that both hold
 both : (p q : Bool) → (p && q) ≡ true → (p ≡ true) × (q ≡ true)
 both true true is = (refl, refl)
 both true false is = absurd (cc)
 both false _ is = absurd (cc)
 
+-- what the test says where it holds
 pub are_pair-true : (g h : Gate) → are_pair g h ≡ true → (g ≡ h) × GoesInPairs g
 are_pair-true (H v) (H w) is = (ap H (eqb-true v w is), tt)
 are_pair-true (X v) (X w) is = (ap X (eqb-true v w is), tt)
@@ -27,6 +29,7 @@ are_pair-true (Cx a b) (Cx c d) is =
     (cc, tt)
 are_pair-true _ _ is = absurd (cc)
 
+-- a gate that goes in pairs is one with itself
 pub are_pair-self : (g : Gate) → GoesInPairs g → are_pair g g ≡ true
 are_pair-self (H w) pairs = eq-eqb w w refl
 are_pair-self (X w) pairs = eq-eqb w w refl
@@ -38,7 +41,8 @@ abbrev pub put : Gate → List Gate → List Gate
 put g [] = g ∷ []
 put g (h ∷ d) = cond (are_pair g h) d (g ∷ h ∷ d)
 
--- the gates put in front of one another, from the last to the first
+-- the gates put in front of one another, from the last to the first: this doesn't change where a
+-- pair is taken out, and a list without a pair stays as it is, so no two such lists arise from one
 abbrev pub reduced : List Gate → List Gate
 reduced [] = []
 reduced (g ∷ c) = put g (reduced c)
@@ -48,14 +52,16 @@ data First (g h : Gate) : Type 0 where
   paired : are_pair g h ≡ true → g ≡ h → GoesInPairs g → First g h
   apart : are_pair g h ≡ false → (g ≡ h → GoesInPairs g → ⊥) → First g h
 
+-- which of the two it is
 first : (g h : Gate) → First g h
 first g h = by (are_pair g h) refl
   where
     by : (b : Bool) → are_pair g h ≡ b → First g h
     by true is = paired is (are_pair-true g h is).0 (are_pair-true g h is).1
-    by false is = apart is (λ same pairs. let self : are_pair g h ≡ true = subst (λ (x : Gate). are_pair g x ≡ true) same (are_pair-self g pairs) in absurd (cc))
+    by false is = apart is
+        (λ same pairs. let itself : are_pair g h ≡ true = subst (λ (x : Gate). are_pair g x ≡ true) same (are_pair-self g pairs) in absurd (cc))
 
--- what has no pair: a gate that is put in front leaves none
+-- a gate that is put in front of a list without a pair makes none
 HasNoPair-put : (g : Gate) (d : List Gate) → HasNoPair d → HasNoPair (put g d)
 HasNoPair-put g [] free = HasNoPair-one g
 HasNoPair-put g (h ∷ d) free = by (first g h)
@@ -122,4 +128,6 @@ some_cancelled c = (reduced c, record { arises = Arises-reduced c; free = HasNoP
 
 -- and nothing else without a pair does
 pub one_cancelled : (c d e : List Gate) → Cancelled c d → Cancelled c e → d ≡ e
-one_cancelled c d e left right = sym (reduced-free d left.free) ∙ (sym (reduced-Arises left.arises) ∙ (reduced-Arises right.arises ∙ reduced-free e right.free))
+one_cancelled c d e left right =
+    let whole : reduced d ≡ reduced e = sym (reduced-Arises left.arises) ∙ reduced-Arises right.arises in
+    sym (reduced-free d left.free) ∙ (whole ∙ reduced-free e right.free)

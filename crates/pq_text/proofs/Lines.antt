@@ -1,5 +1,5 @@
 -- The lines of gates over a lone register.
-use Rattle.std.proofs.Common.{◌≡◌, ◌≢◌, ℕ, ◌+◌, ◌-◌, ◌<◌, ◌≤◌, ◌^◌, List, [], ◌∷◌, ◌++◌, length, map, codes, bytes_eq, cond, not, eqb, true, Option, Some, None, refl, sym, ◌∙◌, ap, subst, append_assoc, arith, rules}
+use Rattle.std.proofs.Common.{◌≡◌, ◌≢◌, ℕ, ◌<◌, ◌^◌, List, [], ◌∷◌, ◌++◌, map, codes, bytes_eq, cond, not, eqb, true, Option, Some, None, refl, sym, ◌∙◌, ap, append_assoc, arith}
 use Rattle.std.specs.List.{join_with_byte, list_all}
 use Rattle.pq_gate.specs.declared.gate.Gate.{Gate}
 use Rattle.pq_gate.specs.declared.gate.Gate.TheVariants.{H, X, Phase, Cx}
@@ -11,7 +11,7 @@ use Rattle.pq_text.specs.declared.gate.Word.TheVariants.{H as WordH, X as WordX,
 use Rattle.pq_text.specs.Program.{RegisterView}
 use Rattle.pq_text.specs.Print.{indexed, place, statement, phase_word, gate_word, gate_arguments, gate_line}
 use Rattle.pq_text.specs.Words.{word_text}
-use Rattle.pq_text.proofs.Cuts.{SameCut, cut_once, without_mark}
+use Rattle.pq_text.proofs.Cuts.{cut_once, without_mark}
 use Rattle.pq_text.proofs.Places.{SameNumber, indexed_once, place_of_one, tail_of}
 
 -- the word of a gate's line

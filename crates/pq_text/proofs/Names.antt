@@ -1,24 +1,25 @@
 -- Names, and the words that are none.
-use Rattle.std.proofs.Common.{◌≡◌, ◌≢◌, ℕ, ◌+◌, ◌<◌, ◌≤◌, ◌⊎◌, Bool, true, List, [], ◌∷◌, ◌++◌, length, take, drop, get_or, All, Contains, codes, decimal, append_assoc, bytes_eq, Decides, refl, sym, ◌∙◌, ap, subst, inl, inr, arith, rules}
+use Rattle.std.proofs.Common.{◌≡◌, ◌≢◌, ℕ, ◌<◌, List, [], ◌∷◌, ◌++◌, length, take, drop, get_or, All, Contains, codes, decimal, append_assoc, bytes_eq, Decides, refl, sym, ◌∙◌, ap, subst, inl, inr, arith}
 use Rattle.std.specs.List.{list_any, AllByRecursion}
-use Rattle.std.proofs.lemmas.Bool.{cases_lt, cases_eq}
+use Rattle.std.proofs.lemmas.Bool.{cases_lt}
 use Rattle.std.proofs.lemmas.List.{take_at, get_or_at}
 use Rattle.std.proofs.lemmas.List.Folds.{Any-from_list_any, list_any_at}
-use Rattle.std.proofs.lemmas.List.Prefix.{front_fits, front_reads}
+use Rattle.std.proofs.lemmas.List.Prefix.{front_reads}
 use Rattle.std.proofs.lemmas.Slice.Eq.{bytes_eq-Decides}
 use Rattle.std.proofs.lemmas.List.Elements.{All-head, All-tail}
 use Rattle.pq_text.specs.Program.{RegisterView}
 use Rattle.pq_text.specs.Print.{indexed, register_line}
 use Rattle.pq_text.proofs.Cuts.{cut_once}
 use Rattle.pq_text.proofs.Places.{indexed_apart}
-use Rattle.pq_text.specs.Name.{IsNameByte, IsLawfulName, IsRegisterName}
+use Rattle.pq_text.specs.Name.{IsNameByte, IsRegisterName}
 
 -- some word is equal to the name where the list of words contains it
 pub list_any_decides : (words : List (List ℕ)) (name : List ℕ) → Decides (list_any (λ word. bytes_eq word name) words) (Contains words name)
-list_any_decides words name =
-    (λ yes. let some = Any-from_list_any (λ word. bytes_eq word name) words yes in
+list_any_decides words name = (
+  λ yes. let some = Any-from_list_any (λ word. bytes_eq word name) words yes in
       (some.0, some.2, subst (λ w. get_or words some.0 w ≡ w) ((bytes_eq-Decides some.1 name).0 some.4) some.3),
-    λ among. list_any_at (λ word. bytes_eq word name) words among.0 name among.1 ((bytes_eq-Decides (get_or words among.0 name) name).1 among.2))
+  λ among. list_any_at (λ word. bytes_eq word name) words among.0 name among.1 ((bytes_eq-Decides (get_or words among.0 name) name).1 among.2),
+)
 
 no_bracket : (b : ℕ) → IsNameByte b → b ≢ 91
 no_bracket b h e = grind arith
@@ -28,12 +29,12 @@ pub name_ends : (text name rest : List ℕ) (at : ℕ) → get_or text at 0 ≡ 
 name_ends text name rest at bracket first bytes e =
     let after : get_or text (length name) 0 ≡ 91 = ap (λ t. get_or t (length name) 0) e ∙ get_or_at name 91 rest 0 (length name) refl in
     elim (cases_lt at (length name)) [
-      inl inside ↦
-        let read : get_or text at 0 ≡ get_or name at 0 = front_reads 0 text name (91 ∷ rest) e at inside in
-        absurd (no_bracket (get_or name at 0) (bytes at 0 inside) (sym read ∙ bracket))
-    | inr reached ↦ elim (cases_lt (length name) at) [
-        inl past ↦ absurd (first (length name) past after)
-      | inr same ↦ omega arith
+      | inl inside ↦
+          let read : get_or text at 0 ≡ get_or name at 0 = front_reads 0 text name (91 ∷ rest) e at inside in
+          absurd (no_bracket (get_or name at 0) (bytes at 0 inside) (sym read ∙ bracket))
+      | inr reached ↦ elim (cases_lt (length name) at) [
+        | inl past ↦ absurd (first (length name) past after)
+        | inr same ↦ omega arith
       ]
     ]
 
@@ -55,7 +56,7 @@ pub declared : (r : RegisterView) (after name digits rest : List ℕ) → IsRegi
 declared r after name digits rest named own e cut =
     let reads : after ≡ (indexed r.name r.size ++ codes ";\n") ++ rest = ap (drop 5) e in
     let cuts =
-      cut_once 91 name r.name digits (decimal r.size ++ 93 ∷ (codes ";\n" ++ rest)) (bracketless name named.lawful.bytes) (bracketless r.name own.lawful.bytes)
-      (sym cut ∙ (reads ∙ (append_assoc (indexed r.name r.size) (codes ";\n") rest ∙ indexed_apart r.name (codes ";\n" ++ rest) r.size)))
+    cut_once 91 name r.name digits (decimal r.size ++ 93 ∷ (codes ";\n" ++ rest)) (bracketless name named.lawful.bytes) (bracketless r.name own.lawful.bytes)
+    (sym cut ∙ (reads ∙ (append_assoc (indexed r.name r.size) (codes ";\n") rest ∙ indexed_apart r.name (codes ";\n" ++ rest) r.size)))
     in
     record { name_is = cuts.front; digits_are = cuts.rest }

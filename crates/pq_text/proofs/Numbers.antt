@@ -1,14 +1,14 @@
 -- Decimal numbers at the front of a text.
-use Rattle.std.proofs.Common.{◌≡◌, ◌≢◌, ℕ, ◌+◌, ◌<◌, ◌≤◌, ◌^◌, ◌⊎◌, List, [], ◌∷◌, ◌++◌, length, take, drop, get_or, decimal, refl, sym, ◌∙◌, ap, subst, inl, inr, arith, rules}
+use Rattle.std.proofs.Common.{◌≡◌, ◌≢◌, ℕ, ◌+◌, ◌<◌, ◌≤◌, ◌^◌, ◌⊎◌, List, ◌∷◌, ◌++◌, length, take, drop, get_or, decimal, refl, sym, ◌∙◌, ap, subst, inl, inr, arith}
 use Rattle.std.specs.Char.{IsNotAsciiDigit, digit_value}
 use Rattle.std.proofs.lemmas.Bool.Decides.{nat_tests}
 use Rattle.std.specs.Int.{IsInRange}
 use Rattle.std.specs.Str.Parse.{digits_value, AllDigits}
 use Rattle.std.proofs.lemmas.Bool.{cases_lt, cases_eq}
-use Rattle.std.proofs.lemmas.List.{take_at, drop_at, get_or_at, get_or-take, length-take-le, take-append-le, take-take}
-use Rattle.std.proofs.lemmas.List.Prefix.{front_fits, front_reads}
+use Rattle.std.proofs.lemmas.List.{take_at, drop_at, get_or_at, get_or-take, length-take-le, take-append-le}
+use Rattle.std.proofs.lemmas.List.Prefix.{front_reads}
 use Rattle.std.proofs.lemmas.Str.Parse.{IsNumeralModel, numerals_by_value, tells_digits, digit_at, digits_value-take-le}
-use Rattle.std.proofs.lemmas.Fmt.{decimal_is_IsNumeral, decimal-digits_value, first_decimal, decimal_digit, decimal_nonempty, decimal_injective}
+use Rattle.std.proofs.lemmas.Fmt.{decimal_is_IsNumeral, decimal-digits_value, first_decimal, decimal_digit, decimal_nonempty}
 use Rattle.pq_text.specs.Digits.{IsDigitFront, IsTooGreat, IsNumberFront}
 
 own : IsNumeralModel (AllDigits 10) (digits_value 10)
@@ -28,15 +28,15 @@ read_after text front rest mark e = ap (λ t. get_or t (length front) 0) e ∙ g
 pub digits_within : (text front rest : List ℕ) (mark count : ℕ) → count ≤ length text → AllDigits 10 (take count text) → IsNotAsciiDigit mark → text ≡ front ++ mark ∷ rest → count ≤ length front
 digits_within text front rest mark count within digits none e =
     elim (cases_lt (length front) count) [
-      inl past ↦
-        let read : get_or (take count text) (length front) 0 ≡ mark =
+      | inl past ↦
+          let read : get_or (take count text) (length front) 0 ≡ mark =
           get_or-take count text (length front) 0 past ∙ read_after text front rest mark e
-        in
-        let digit : IsInRange 48 57 (get_or (take count text) (length front) 0) =
+          in
+          let digit : IsInRange 48 57 (get_or (take count text) (length front) 0) =
           digit_at (take count text) (length front) digits (rw (length-take-le count text within) past)
-        in
-        absurd (not_both mark (subst (IsInRange 48 57) read digit) none)
-    | inr reached ↦ reached
+          in
+          absurd (not_both mark (subst (IsInRange 48 57) read digit) none)
+      | inr reached ↦ reached
     ]
 
 -- all digits at the front of a text are those before the first byte that is none
@@ -44,12 +44,12 @@ pub digits_end : (text front rest : List ℕ) (mark count : ℕ) → count ≤ l
 digits_end text front rest mark count within digits no_more all none e =
     let low : count ≤ length front = digits_within text front rest mark count within digits none e in
     elim (cases_lt count (length front)) [
-      inl short ↦
-        let read : get_or text count 0 ≡ get_or front count 0 =
+      | inl short ↦
+          let read : get_or text count 0 ≡ get_or front count 0 =
           front_reads 0 text front (mark ∷ rest) e count short
-        in
-        absurd (not_both _ (subst (IsInRange 48 57) (sym read) (digit_at front count all short)) no_more)
-    | inr reached ↦ omega arith
+          in
+          absurd (not_both _ (subst (IsInRange 48 57) (sym read) (digit_at front count all short)) no_more)
+      | inr reached ↦ omega arith
     ]
 
 -- what is known of a text that begins with a number
@@ -62,15 +62,15 @@ pub record StandsFor (text : List ℕ) (count n : ℕ) : Type 0 where
 leading : (n : ℕ) → n < 2 ^ 64 → get_or (decimal n) 0 0 ≡ 48 → length (decimal n) ≡ 1
 leading n fits zero_first =
     elim (cases_eq n 0) [
-      inl e ↦ rw (e, decimal_digit 0 (omega arith)) refl
-    | inr some ↦ let first = first_decimal n (omega arith) fits in absurd (omega arith)
+      | inl e ↦ rw (e, decimal_digit 0 (omega arith)) refl
+      | inr some ↦ let first = first_decimal n (omega arith) fits in absurd (omega arith)
     ]
 
 pub stands_for : (text rest : List ℕ) (mark count n : ℕ) → count ≤ length text → AllDigits 10 (take count text) → IsNotAsciiDigit (get_or text count 0) → n < 2 ^ 32 → IsNotAsciiDigit mark → text ≡ decimal n ++ mark ∷ rest → StandsFor text count n
 stands_for text rest mark count n within digits no_more fits none e =
     let wide : n < 2 ^ 64 = omega arith in
     let same : count ≡ length (decimal n) =
-      digits_end text (decimal n) rest mark count within digits no_more ((decimal_is_IsNumeral n wide).0.1) none e
+    digits_end text (decimal n) rest mark count within digits no_more ((decimal_is_IsNumeral n wide).0.1) none e
     in
     let some : 0 < length (decimal n) = decimal_nonempty n wide in
     let first : get_or text 0 0 ≡ get_or (decimal n) 0 0 = front_reads 0 text (decimal n) (mark ∷ rest) e 0 some in
@@ -89,7 +89,7 @@ number_front text count value front fits some no_zero =
     record {
       within = front.within;
       spelled =
-        sym (rw front.value_is (decimal-digits_value own (take count text) front.digits (omega arith) (λ z. len ∙ no_zero (sym first ∙ z)) (omega (arith, front.value_is))));
+          sym (rw front.value_is (decimal-digits_value own (take count text) front.digits (omega arith) (λ z. len ∙ no_zero (sym first ∙ z)) (omega (arith, front.value_is))));
       fits = fits;
       no_more = front.no_more;
     }
@@ -100,10 +100,10 @@ no_number text count value front bad n mark rest fits none e =
     let s = stands_for text rest mark count n front.within front.digits front.no_more fits none e in
     let same : value ≡ n = front.value_is ∙ ap (digits_value 10) s.spelled ∙ (decimal_is_IsNumeral n (omega arith)).1 in
     elim bad [
-      inl great ↦ omega arith
-    | inr rest ↦ elim rest [
-        inl nothing ↦ omega (arith, s.some)
-      | inr zero ↦ omega (arith, s.no_zero zero.1)
+      | inl great ↦ omega arith
+      | inr rest ↦ elim rest [
+        | inl nothing ↦ omega (arith, s.some)
+        | inr zero ↦ omega (arith, s.no_zero zero.1)
       ]
     ]
 

@@ -1,5 +1,5 @@
 -- A wire or a bit as its register and its index there.
-use Rattle.std.proofs.Common.{◌≡◌, ◌≢◌, ℕ, ◌+◌, ◌-◌, ◌<◌, ◌≤◌, ◌^◌, List, [], ◌∷◌, ◌++◌, length, take, drop, get_or, decimal, nat_lt, cond, true, false, refl, sym, ◌∙◌, ap, subst, append_assoc, inr, lt-ltb, le-ltb, arith}
+use Rattle.std.proofs.Common.{◌≡◌, ℕ, ◌+◌, ◌-◌, ◌<◌, ◌≤◌, ◌^◌, List, [], ◌∷◌, ◌++◌, length, take, drop, get_or, decimal, refl, sym, ◌∙◌, ap, append_assoc, inr, lt-ltb, le-ltb, arith}
 use Rattle.std.specs.Char.{IsNotAsciiDigit}
 use Rattle.std.proofs.lemmas.List.{take_at, drop_at, append_cancel_left, at_drop_more}
 use Rattle.std.proofs.lemmas.List.Prefix.{front_fits}
@@ -26,7 +26,7 @@ number_once mark m n x y none fit fits e =
     let own = front_of text (decimal m) (mark ∷ x) refl in
     let digits = (decimal_is_IsNumeral m (omega arith)).0.1 in
     let same : length (decimal m) ≡ length (decimal n) =
-      digits_end text (decimal n) y mark (length (decimal m)) (omega (arith, front_fits text (decimal m) (mark ∷ x) refl)) (rw own.0 digits) (rw (read_after text (decimal m) x mark refl) none) ((decimal_is_IsNumeral n (omega arith)).0.1) none e
+    digits_end text (decimal n) y mark (length (decimal m)) (omega (arith, front_fits text (decimal m) (mark ∷ x) refl)) (rw own.0 digits) (rw (read_after text (decimal m) x mark refl) none) ((decimal_is_IsNumeral n (omega arith)).0.1) none e
     in
     let other = front_of text (decimal n) (mark ∷ y) e in
     let spelled : decimal m ≡ decimal n = sym own.0 ∙ ap (λ k. take k text) same ∙ other.0 in
@@ -40,7 +40,7 @@ indexed_apart name rest n =
 pub indexed_once : (name x y : List ℕ) (m n : ℕ) → m < 2 ^ 32 → n < 2 ^ 32 → indexed name m ++ x ≡ indexed name n ++ y → SameNumber m n x y
 indexed_once name x y m n fit fits e =
     let tails : 91 ∷ (decimal m ++ 93 ∷ x) ≡ 91 ∷ (decimal n ++ 93 ∷ y) =
-      append_cancel_left name (91 ∷ (decimal m ++ 93 ∷ x)) (91 ∷ (decimal n ++ 93 ∷ y)) (sym (indexed_apart name x m) ∙ e ∙ indexed_apart name y n)
+    append_cancel_left name (91 ∷ (decimal m ++ 93 ∷ x)) (91 ∷ (decimal n ++ 93 ∷ y)) (sym (indexed_apart name x m) ∙ e ∙ indexed_apart name y n)
     in
     number_once 93 m n x y (inr (omega arith)) fit fits (tail_of 91 91 (decimal m ++ 93 ∷ x) (decimal n ++ 93 ∷ y) tails)
 

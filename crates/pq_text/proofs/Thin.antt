@@ -1,13 +1,12 @@
 -- Lines of gates one after another, and thin programs.
-use Rattle.std.proofs.Common.{◌≡◌, ◌≢◌, ℕ, ◌+◌, ◌<◌, ◌≤◌, ◌^◌, List, [], ◌∷◌, ◌++◌, length, drop, map, flat_map, codes, decimal, get_or, All, AllPairs, refl, sym, ◌∙◌, ap, subst, append_assoc, inr, arith}
+use Rattle.std.proofs.Common.{◌≡◌, ℕ, ◌+◌, ◌<◌, ◌^◌, List, [], ◌∷◌, ◌++◌, length, drop, map, flat_map, codes, decimal, refl, sym, ◌∙◌, ap, subst, append_assoc, inr, arith}
 use Rattle.std.specs.List.{join_with_byte}
 use Rattle.std.proofs.lemmas.List.{append_cancel_left, append-nil, length-append}
 use Rattle.std.proofs.lemmas.List.Elements.{All-head}
 use Rattle.pq_gate.specs.declared.gate.Gate.{Gate}
 use Rattle.pq_gate.specs.declared.gate.Gate.TheVariants.{H, X, Phase, Cx}
 use Rattle.pq_gate.specs.Circuit.{IsOnWires, IsCircuit}
-use Rattle.pq_text.specs.declared.gate.Word.{Word}
-use Rattle.pq_text.specs.declared.gate.Word.TheVariants.{H as WordH, X as WordX, Phase as WordPhase, Cx as WordCx}
+use Rattle.pq_text.specs.declared.gate.Word.TheVariants.{Phase as WordPhase}
 use Rattle.pq_text.specs.Program.{RegisterView, ProgramView}
 use Rattle.pq_text.specs.Print.{header, register_line, indexed, place, gate_arguments, gate_line, print}
 use Rattle.pq_text.specs.WellFormed.{IsRegister, WellFormed, IsThin}
@@ -83,8 +82,8 @@ lines_go_on r (g ∷ gates) [] rest small on also e =
     absurd (no_empty_line (r ∷ []) g (flat_map (gate_line (r ∷ [])) gates ++ rest) (sym (append_assoc (gate_line (r ∷ []) g) (flat_map (gate_line (r ∷ [])) gates) rest) ∙ e))
 lines_go_on r (g ∷ gates) (h ∷ hs) rest small on also e =
     let once =
-      line_once r g h (flat_map (gate_line (r ∷ [])) gates ++ rest) (flat_map (gate_line (r ∷ [])) hs) small on.0 also.0
-      (sym (append_assoc (gate_line (r ∷ []) g) (flat_map (gate_line (r ∷ [])) gates) rest) ∙ e)
+    line_once r g h (flat_map (gate_line (r ∷ [])) gates ++ rest) (flat_map (gate_line (r ∷ [])) hs) small on.0 also.0
+    (sym (append_assoc (gate_line (r ∷ []) g) (flat_map (gate_line (r ∷ [])) gates) rest) ∙ e)
     in
     let more = lines_go_on r gates hs rest small on.1 also.1 once.rest in
     let heads = once.gate in
@@ -102,7 +101,7 @@ register_once r q x y own other small also e =
     let after : List ℕ = (indexed r.name r.size ++ codes ";\n") ++ x in
     let digits : List ℕ = decimal r.size ++ 93 ∷ (codes ";\n" ++ x) in
     let cut : after ≡ r.name ++ 91 ∷ digits =
-      append_assoc (indexed r.name r.size) (codes ";\n") x ∙ indexed_apart r.name (codes ";\n" ++ x) r.size
+    append_assoc (indexed r.name r.size) (codes ";\n") x ∙ indexed_apart r.name (codes ";\n" ++ x) r.size
     in
     let parts = declared q after r.name digits y own.named other.named e cut in
     let once = number_once 93 r.size q.size (codes ";\n" ++ x) (codes ";\n" ++ y) (inr (omega arith)) small also parts.digits_are in
@@ -112,7 +111,7 @@ pub goes_on : (r q : RegisterView) (gates hs : List Gate) (rest : List ℕ) → 
 goes_on r q gates hs rest own small on thin e =
     let lines : RegisterView → List Gate → List ℕ = λ p gs. flat_map (gate_line (p ∷ [])) gs in
     let registers =
-      append_cancel_left header (register_line (codes "qreg") r ++ (lines r gates ++ rest)) (register_line (codes "qreg") q ++ (lines q hs ++ [])) e
+    append_cancel_left header (register_line (codes "qreg") r ++ (lines r gates ++ rest)) (register_line (codes "qreg") q ++ (lines q hs ++ [])) e
     in
     let limit = thin.wires in
     let once = register_once r q (lines r gates ++ rest) (lines q hs ++ []) own thin.register small (omega arith) registers in

@@ -1,3 +1,4 @@
+pub use Rattle.pq_gate.specs.Circuit
 pub mod Name
 pub mod Program
 pub mod Print

@@ -1,10 +1,10 @@
 -- Thin programs by their parts, and how their text goes on.
-use Rattle.std.specs.Prelude.{◌≡◌, ℕ, ◌<◌, ◌≤◌, ◌^◌, List, [], ◌∷◌, ◌++◌, length, flat_map, codes}
+use Rattle.std.specs.Prelude.{◌≡◌, ℕ, ◌≤◌, List, [], ◌∷◌, ◌++◌, length, flat_map, codes}
 use Rattle.pq_gate.specs.declared.gate.Gate.{Gate}
 use Rattle.pq_gate.specs.Circuit.{IsCircuit}
 use Rattle.pq_text.specs.Program.{RegisterView, ProgramView}
-use Rattle.pq_text.specs.Print.{header, register_line, gate_line, print}
-use Rattle.pq_text.specs.WellFormed.{IsRegister, IsThin}
+use Rattle.pq_text.specs.Print.{header, register_line, gate_line}
+use Rattle.pq_text.specs.WellFormed.{IsRegister}
 
 -- the program of one register and these gates
 abbrev pub thin_of : RegisterView → List Gate → ProgramView

@@ -1,6 +1,5 @@
 -- Which programs there are.
-use Rattle.std.specs.Prelude.{◌≡◌, ◌≢◌, ℕ, ◌<◌, ◌≤◌, List, [], ◌∷◌, ◌++◌, length, All, AllPairs}
-use Rattle.pq_gate.specs.declared.gate.Gate.{Gate}
+use Rattle.std.specs.Prelude.{◌≡◌, ◌≢◌, ℕ, ◌<◌, ◌≤◌, List, [], ◌++◌, length, All, AllPairs}
 use Rattle.pq_gate.specs.Circuit.{IsCircuit}
 use Rattle.pq_text.specs.Name.{IsRegisterName}
 use Rattle.pq_text.specs.Program.{RegisterView, TailView, Barrier, Measure, ProgramView, places_of, entries_of}

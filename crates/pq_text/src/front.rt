@@ -1,9 +1,12 @@
-ghost use Rattle.std.specs.Prelude.{◌≡◌, ◌≢◌, List, ℕ, ◌∷◌, ◌++◌, MatchOption, OnOk};
+ghost use Rattle.std.specs.Prelude.{◌≡◌, ◌≢◌, List, ℕ, ◌∷◌, ◌++◌, OnOk, MatchOption};
 ghost use Rattle.pq_text.specs.Print.{header};
 
 use std::alloc::AllocError;
 
+const HEADER: &[u8] = b"OPENQASM 2.0;\ninclude \"qelib1.inc\";\n";
+
 /// What follows `front` in the text, or `None` where the text does not begin with it.
+#[inline]
 pub fn after<'a>(text: &'a [u8], front: &[u8]) -> Option<&'a [u8]>
     ensures { MatchOption result
         ((rest : List ℕ) → text.now ≢ front.now ++ rest)
@@ -13,6 +16,7 @@ pub fn after<'a>(text: &'a [u8], front: &[u8]) -> Option<&'a [u8]>
 }
 
 /// What follows the byte `mark`, or `None` where the text does not begin with it.
+#[inline]
 pub fn after_mark(text: &[u8], mark: u8) -> Option<&[u8]>
     ensures { MatchOption result
         ((rest : List ℕ) → text.now ≢ mark ∷ rest)
@@ -32,7 +36,7 @@ pub fn after_header(text: &[u8]) -> Option<&[u8]>
         ((rest : List ℕ) → text.now ≢ header ++ rest)
         (λ rest. text.now ≡ header ++ rest.now) }
 {
-    after(text, b"OPENQASM 2.0;\ninclude \"qelib1.inc\";\n")
+    after(text, HEADER)
 }
 
 /// Appends the two lines that each canonical text begins with.
@@ -40,5 +44,5 @@ pub fn after_header(text: &[u8]) -> Option<&[u8]>
 pub fn push_header(out: &mut Vec<u8>) -> Result<(), AllocError>
     ensures { OnOk result (out.new.items ≡ out.old.items ++ header) }
 {
-    out.extend_from_slice(b"OPENQASM 2.0;\ninclude \"qelib1.inc\";\n")
+    out.extend_from_slice(HEADER)
 }

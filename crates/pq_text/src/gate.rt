@@ -1,8 +1,7 @@
-ghost use Rattle.std.specs.Prelude.{◌≡◌, ◌≢◌, List, ℕ, [], ◌<◌, ◌≤◌, ◌^◌, ◌∷◌, ◌++◌, length, codes, IfSome, IfNone, OnOk};
+ghost use Rattle.std.specs.Prelude.{◌≡◌, ◌≢◌, List, ℕ, [], ◌<◌, ◌∷◌, ◌++◌, length, IfSome, IfNone, OnOk};
 ghost use Rattle.pq_gate.specs.declared.gate.Gate.{Gate};
 ghost use Rattle.pq_gate.specs.Circuit.{IsOnWires};
-ghost use Rattle.pq_text.specs.Program.{RegisterView, places_of};
-ghost use Rattle.pq_text.specs.Print.{indexed, place, gate_word, gate_line};
+ghost use Rattle.pq_text.specs.Print.{gate_word, gate_line};
 ghost use Rattle.pq_text.specs.Words.{word_text};
 ghost use Rattle.pq_text.specs.declared.gate.Word.{Word};
 
@@ -10,6 +9,9 @@ use crate::front::after;
 use crate::register::{RegisterSpan, place_at, push_place};
 use pq_gate::{Eighths, Gate};
 use std::alloc::AllocError;
+
+/// The most gates that a program has.
+pub const MAX_GATES: u32 = 1_048_576;
 
 // What the first word of a gate's line tells.
 enum Word {
@@ -20,6 +22,7 @@ enum Word {
 }
 
 // The word of a gate and the space after it at the front of a text, and what follows.
+#[inline]
 fn word_at(text: &[u8]) -> Option<(Word, &[u8])>
     ensures found { IfSome result (λ read. text.now ≡ word_text read.0 ++ 32 ∷ read.1.now) }
     ensures none { IfNone result
@@ -54,7 +57,7 @@ fn longer_word_at(text: &[u8]) -> Option<(Word, &[u8])>
     ensures found { IfSome result (λ read. text.now ≡ word_text read.0 ++ 32 ∷ read.1.now) }
     ensures none { IfNone result
         ((word : Word) (rest : List ℕ) → 1 < length (word_text word)
-            → text.now ≢ word_text word ++ 32 ∷ rest) }
+        → text.now ≢ word_text word ++ 32 ∷ rest) }
 {
     if let Some(rest) = after(text, b"cx ") {
         return Some((Word::Cx, rest));
@@ -76,7 +79,7 @@ pub fn gate_line_at<'t>(text: &'t [u8], register: &RegisterSpan) -> Option<(Gate
     ensures fits { IfSome result (λ read. IsOnWires register.now.size read.0) }
     ensures none { IfNone result
         ((gate : Gate) (rest : List ℕ) → IsOnWires register.now.size gate
-            → text.now ≢ gate_line (register.now ∷ []) gate ++ rest) }
+        → text.now ≢ gate_line (register.now ∷ []) gate ++ rest) }
 {
     let (word, rest) = word_at(text)?;
     match word {
@@ -104,6 +107,7 @@ pub fn gate_line_at<'t>(text: &'t [u8], register: &RegisterSpan) -> Option<(Gate
 }
 
 // The word that a gate is written with.
+#[inline]
 fn word_of(gate: Gate) -> &'static [u8]
     ensures { result.now ≡ gate_word gate }
 {

@@ -12,7 +12,9 @@ pub fn is_lawful_name(name: &[u8]) -> bool
 {
     match name.first() {
         Some(first) => {
-            first.is_ascii_lowercase() && name.iter().all(|b| is_name_byte(*b)) && !is_reserved(name)
+            first.is_ascii_lowercase()
+                && name.iter().all(|b| is_name_byte(*b))
+                && !is_reserved(name)
         }
         None => false,
     }

@@ -21,11 +21,12 @@ pub fn number_before(text: &[u8], mark: u8) -> Option<(u32, &[u8])>
 }
 
 // The number at the front of a text, and how many digits it has.
+#[inline]
 fn number_at(text: &[u8]) -> Option<(u32, usize)>
     ensures found { IfSome result (λ read. IsNumberFront text.now read.1 read.0) }
     ensures none { IfNone result
         ((n mark : ℕ) (rest : List ℕ) → n < 2 ^ 32 → IsNotAsciiDigit mark
-            → text.now ≢ decimal n ++ mark ∷ rest) }
+        → text.now ≢ decimal n ++ mark ∷ rest) }
 {
     let (value, count) = digits_at(text)?;
     if value > u64::from(u32::MAX) || count == 0 || has_leading_zero(text, count) {
@@ -42,6 +43,7 @@ fn has_leading_zero(text: &[u8], count: usize) -> bool
 }
 
 // The number that the digits at the front of a text stand for, and how many digits there are.
+#[inline]
 fn digits_at(text: &[u8]) -> Option<(u64, usize)>
     ensures found { IfSome result (λ read. IsDigitFront text.now read.1 read.0) }
     ensures fits { IfSome result (λ read. read.0 < 2 ^ 64) }
@@ -61,6 +63,7 @@ fn digits_at(text: &[u8]) -> Option<(u64, usize)>
 }
 
 /// Appends a number in decimal.
+#[inline]
 pub fn push_number(out: &mut Vec<u8>, number: u32) -> Result<(), AllocError>
     ensures { OnOk result (out.new.items ≡ out.old.items ++ decimal number) }
 {

@@ -1,5 +1,5 @@
 ghost use Rattle.std.specs.Prelude.{◌≡◌, ◌≢◌, List, ℕ, [], ◌<◌, ◌≤◌, ◌^◌, ◌∷◌, ◌++◌, codes, IfSome, IfNone, OnOk};
-ghost use Rattle.pq_text.specs.Program.{RegisterView, places_of};
+ghost use Rattle.pq_text.specs.Program.{RegisterView};
 ghost use Rattle.pq_text.specs.Print.{indexed, place, register_line};
 ghost use Rattle.pq_text.specs.WellFormed.{IsRegister};
 
@@ -31,6 +31,7 @@ impl<'a> Model for RegisterSpan<'a> {
 }
 
 impl<'a> RegisterSpan<'a> {
+    /// The register of this name and size.
     pub fn new(name: &'a [u8], size: u32) -> RegisterSpan<'a>
         ensures name { result.name ≡ name.entry.now }
         ensures size { result.size ≡ size }
@@ -38,12 +39,14 @@ impl<'a> RegisterSpan<'a> {
         RegisterSpan { name, size }
     }
 
+    /// The bytes of the name.
     pub fn name(&self) -> &'a [u8]
         ensures { result.now ≡ self.now.name }
     {
         self.name
     }
 
+    /// How many wires or bits there are.
     pub fn size(&self) -> u32
         ensures { result ≡ self.now.size }
     {
@@ -52,6 +55,7 @@ impl<'a> RegisterSpan<'a> {
 }
 
 /// Reads `NAME[INDEX]` at the front of a text. Gives the index, below 2^32, and what follows.
+#[inline]
 pub fn indexed_at<'t>(text: &'t [u8], name: &[u8]) -> Option<(u32, &'t [u8])>
     ensures found { IfSome result (λ read. text.now ≡ indexed name.now read.0 ++ read.1.now) }
     ensures fits { IfSome result (λ read. read.0 < 2 ^ 32) }
@@ -66,18 +70,14 @@ pub fn indexed_at<'t>(text: &'t [u8], name: &[u8]) -> Option<(u32, &'t [u8])>
 
 /// Reads a wire or a bit of one register, written `NAME[INDEX]`, and the text `end` right after it,
 /// at the front of a text. Gives the index and what follows the end.
-pub fn place_at<'t>(
-    text: &'t [u8],
-    register: &RegisterSpan,
-    end: &[u8],
-) -> Option<(u32, &'t [u8])>
+pub fn place_at<'t>(text: &'t [u8], register: &RegisterSpan, end: &[u8]) -> Option<(u32, &'t [u8])>
     ensures found { IfSome result
         (λ read. text.now ≡ indexed register.now.name read.0 ++ (end.now ++ read.1.now)) }
     ensures fits { IfSome result (λ read. read.0 < register.now.size) }
     ensures size { register.now.size < 2 ^ 32 }
     ensures none { IfNone result
         ((n : ℕ) (rest : List ℕ) → n < register.now.size
-            → text.now ≢ indexed register.now.name n ++ (end.now ++ rest)) }
+        → text.now ≢ indexed register.now.name n ++ (end.now ++ rest)) }
 {
     let (index, rest) = indexed_at(text, register.name)?;
     if index >= register.size {
@@ -96,7 +96,7 @@ pub fn register_line_at(text: &[u8]) -> Option<(RegisterSpan<'_>, &[u8])>
     ensures limit { IfSome result (λ read. read.0.size ≤ 4096) }
     ensures none { IfNone result
         ((r : RegisterView) (rest : List ℕ) → IsRegister r → r.size ≤ 4096
-            → text.now ≢ register_line (codes "qreg") r ++ rest) }
+        → text.now ≢ register_line (codes "qreg") r ++ rest) }
 {
     let rest = after(text, b"qreg ")?;
     let (name, rest) = register_name_at(rest)?;
@@ -109,6 +109,7 @@ pub fn register_line_at(text: &[u8]) -> Option<(RegisterSpan<'_>, &[u8])>
 }
 
 /// Appends `NAME[INDEX]`.
+#[inline]
 pub fn push_indexed(out: &mut Vec<u8>, name: &[u8], index: u32) -> Result<(), AllocError>
     ensures { OnOk result (out.new.items ≡ out.old.items ++ indexed name.now index) }
 {
@@ -120,7 +121,8 @@ pub fn push_indexed(out: &mut Vec<u8>, name: &[u8], index: u32) -> Result<(), Al
 }
 
 /// Appends a wire or a bit, numbered over the registers in order of declaration, as its register and
-/// its index there. Appends nothing where the registers have no such wire or bit.
+/// its index there. Appends nothing where the registers have no such wire or bit. It takes time in
+/// the number of registers.
 pub fn push_place(
     out: &mut Vec<u8>,
     registers: &[RegisterSpan],

@@ -1,6 +1,5 @@
 -- What was taken so far stands in the text.
-use Rattle.std.proofs.Common.{◌-◌, ◌≤◌, length, List, ℕ}
-use Rattle.std.specs.Prelude.{Option}
+use Rattle.std.proofs.Common.{◌-◌, ◌≤◌, length}
 use Rattle.std.specs.Io.KnownBytes.{Consumes}
 use Rattle.pq_io.proofs.whole.read_whole.Given as goal
 

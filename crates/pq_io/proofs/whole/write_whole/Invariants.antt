@@ -1,6 +1,5 @@
 -- What was sent so far is a front of the text, and the sink holds it more.
-use Rattle.std.proofs.Common.{◌-◌, ◌≤◌, length, take, List, ℕ}
-use Rattle.std.specs.Prelude.{Option}
+use Rattle.std.proofs.Common.{◌-◌, ◌≤◌, length, take}
 use Rattle.std.specs.Io.KnownBytes.{Appends}
 use Rattle.pq_io.proofs.whole.write_whole.Given as goal
 

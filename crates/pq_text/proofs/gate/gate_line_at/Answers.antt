@@ -11,11 +11,11 @@ pub returns-in_err-target-in-Cx-clause-none : goal.returns-in_err-target-in-Cx-c
 returns-in_err-target-in-Cx-clause-none c =
     rw c.from_residual-in_err-target-in-Cx.ensures
     (λ g rest on e.
-      let r = c.args.register.now in
-      let found = rw c.in-Cx.is at c.in_ok-word.ensures.found in
-      let p = cx_reads r g c.args.text.now c.in_ok-word.rest.now rest on found e in
-      let once = control_reads r g c.in_ok-word.rest.now rest c.in_ok-control-in-Cx.rest.now c.in_ok-control-in-Cx.control p c.in_ok-control-in-Cx.ensures.size c.in_ok-control-in-Cx.ensures.fits c.in_ok-control-in-Cx.ensures.found in
-      c.in_err-target-in-Cx.ensures.none p.target rest p.second once.rest)
+    let r = c.args.register.now in
+    let found = rw c.in-Cx.is at c.in_ok-word.ensures.found in
+    let p = cx_reads r g c.args.text.now c.in_ok-word.rest.now rest on found e in
+    let once = control_reads r g c.in_ok-word.rest.now rest c.in_ok-control-in-Cx.rest.now c.in_ok-control-in-Cx.control p c.in_ok-control-in-Cx.ensures.size c.in_ok-control-in-Cx.ensures.fits c.in_ok-control-in-Cx.ensures.found in
+    c.in_err-target-in-Cx.ensures.none p.target rest p.second once.rest)
 
 pub returns-then-control-target-clause-none : goal.returns-then-control-target-clause-none
 returns-then-control-target-clause-none c =

@@ -1,4 +1,4 @@
-use Rattle.std.proofs.Common.{◌≡◌, ℕ, ◌<◌, ◌≤◌, take, length, ◌∷◌, ap, sym, ◌∙◌, arith}
+use Rattle.std.proofs.Common.{◌≡◌, take, length, ◌∷◌, ap, sym, ◌∙◌, arith}
 use Rattle.std.proofs.lemmas.Bool.{false≢true}
 use Rattle.std.proofs.lemmas.List.{length-append}
 use Rattle.pq_text.proofs.Names.{name_is}
@@ -15,10 +15,10 @@ pub returns-then-name-gt-MAX_NAME-clause-none : goal.returns-then-name-gt-MAX_NA
 returns-then-name-gt-MAX_NAME-clause-none c =
     λ name rest named e.
     let same : take c.in_ok-end.end c.args.text.now ≡ name =
-      name_is c.args.text.now name rest c.in_ok-end.end c.in_ok-end.ensures.found.1 c.in_ok-end.ensures.first named.lawful.bytes e
+    name_is c.args.text.now name rest c.in_ok-end.end c.in_ok-end.ensures.found.1 c.in_ok-end.ensures.first named.lawful.bytes e
     in
     elim c.then-name-gt-MAX_NAME.branch [
-      then-name-gt-MAX_NAME-via-then-name-gt-MAX_NAME w ↦ omega (arith, named.short, ap length same)
-    | then-name-gt-MAX_NAME-via-else-name-gt-MAX_NAME+then-not-is_lawful_name w ↦
-      false≢true (sym w.if-not-is_lawful_name.true ∙ w.is_lawful_name.ensures.1 (rw same named.lawful))
+      | then-name-gt-MAX_NAME-via-then-name-gt-MAX_NAME w ↦ omega (arith, named.short, ap length same)
+      | then-name-gt-MAX_NAME-via-else-name-gt-MAX_NAME+then-not-is_lawful_name w ↦
+          false≢true (sym w.if-not-is_lawful_name.true ∙ w.is_lawful_name.ensures.1 (rw same named.lawful))
     ]

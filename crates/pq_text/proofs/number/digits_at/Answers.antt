@@ -1,6 +1,5 @@
-use Rattle.std.proofs.Common.{◌≡◌, ℕ, ◌+◌, ◌-◌, ◌*◌, ◌≤◌, get_or, take, ap, ◌∙◌, arith, rules}
+use Rattle.std.proofs.Common.{get_or, arith}
 use Rattle.std.specs.Int.{IsInRange}
-use Rattle.std.specs.Str.Parse.{digits_value}
 use Rattle.std.proofs.lemmas.Int.Digits.{digits_value_more, digits_more}
 use Rattle.pq_text.proofs.Numbers.{value_of_digit}
 use Rattle.pq_text.proofs.number.digits_at.Goals as goal

@@ -11,10 +11,10 @@ pub returns-then-value-from-clause-none : goal.returns-then-value-from-clause-no
 returns-then-value-from-clause-none c =
     no_number c.args.text.now c.in_ok-value.count c.in_ok-value.value c.in_ok-value.ensures.found
     (elim c.then-value-from.branch [
-      then-value-from-via-then-value-from w ↦ inl (omega arith)
-    | then-value-from-via-else-value-from+then-count-eq0 w ↦ inr (inl (omega arith))
-    | then-value-from-via-else-value-from+else-count-eq0+then-has_leading_zero w ↦
-      inr (inr (w.has_leading_zero.ensures.0 w.if-has_leading_zero.true))
+      | then-value-from-via-then-value-from w ↦ inl (omega arith)
+      | then-value-from-via-else-value-from+then-count-eq0 w ↦ inr (inl (omega arith))
+      | then-value-from-via-else-value-from+else-count-eq0+then-has_leading_zero w ↦
+          inr (inr (w.has_leading_zero.ensures.0 w.if-has_leading_zero.true))
     ])
 
 pub returns-clause-found : goal.returns-clause-found

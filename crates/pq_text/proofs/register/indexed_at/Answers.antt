@@ -1,6 +1,4 @@
-use Rattle.std.proofs.Common.{◌≡◌, List, ℕ, ◌∷◌, ◌++◌, decimal, sym, ◌∙◌}
-use Rattle.std.proofs.lemmas.List.{append_cancel_left}
-use Rattle.pq_text.specs.Print.{indexed}
+use Rattle.std.proofs.Common.{◌∷◌, ◌++◌, decimal}
 use Rattle.pq_text.proofs.Places.{after_name, after_bracket}
 use Rattle.pq_text.proofs.register.indexed_at.Goals as goal
 

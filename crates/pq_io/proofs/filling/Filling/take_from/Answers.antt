@@ -1,5 +1,4 @@
-use Rattle.std.proofs.Common.{◌≡◌, ◌+◌, ◌≤◌, length, take, List, ℕ, sym, ap, ◌∙◌, arith}
-use Rattle.std.specs.Vec.{with_items}
+use Rattle.std.proofs.Common.{◌≡◌, ◌≤◌, length, take, sym, ap, ◌∙◌, arith}
 use Rattle.std.proofs.lemmas.List.{with_items_is, take-take}
 use Rattle.pq_io.proofs.Pieces.{Consumes-more}
 use Rattle.pq_io.proofs.filling.Filling.take_from.Goals as goal

@@ -1,4 +1,4 @@
-use Rattle.std.proofs.Common.{◌≡◌, ◌<◌, ◌+◌, List, ℕ, take, drop, length, ap, arith, ◌∙◌, sym}
+use Rattle.std.proofs.Common.{length, ap, arith, ◌∙◌, sym}
 use Rattle.pq_io.proofs.Pieces.{Copies, Copies-front, Copies-end}
 use Rattle.pq_io.proofs.memory.MemSourceSource.take.Goals as goal
 
