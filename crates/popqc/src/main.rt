@@ -4,10 +4,9 @@
 
 use pq_io::{ReadSource, WriteSink};
 use pq_top::{ArgumentFault, refuse_arguments, run_popqc};
-use std::io;
 use std::io::ErrorKind;
 use std::process::ExitCode;
-use std::env;
+use std::{env, io};
 
 fn main(rt: HostRuntime) -> ExitCode {
     let mut notes = WriteSink::new(rt.stderr());

@@ -1,14 +1,14 @@
 -- Texts that are no canonical text of a program with one quantum register, no classical one and no tail.
-use Rattle.std.proofs.Common.{◌≡◌, ◌≢◌, ℕ, ◌+◌, ◌<◌, ◌≤◌, ◌^◌, List, [], ◌∷◌, ◌++◌, length, codes, refl, sym, ap, ◌∙◌, subst, arith, length-append, append_assoc, add-zero}
+use Rattle.std.proofs.Common.{◌≡◌, ◌≢◌, ℕ, ◌≤◌, List, [], ◌∷◌, ◌++◌, length, codes, refl, sym, ap, ◌∙◌, subst, arith, length-append, add-zero}
 use Rattle.std.specs.List.{flat_map}
 use Rattle.std.proofs.lemmas.List.{append_cancel_left}
 use Rattle.std.proofs.lemmas.List.Elements.{All-from_recursion}
 use Rattle.pq_gate.specs.declared.gate.Gate.{Gate}
 use Rattle.pq_gate.specs.Circuit.{IsOnWires, IsCircuit}
 use Rattle.pq_text.specs.Print.{header, register_line, gate_line, print}
-use Rattle.pq_text.specs.Program.{RegisterView, ProgramView}
+use Rattle.pq_text.specs.Program.{RegisterView}
 use Rattle.pq_text.specs.WellFormed.{IsRegister, IsThin}
-use Rattle.pq_text.specs.Thin.{thin_of, AreThin, HasThinParts, thin_text}
+use Rattle.pq_text.specs.Thin.{thin_of, HasThinParts, thin_text}
 use Rattle.pq_text.proofs.Thin.{lines_go_on, LinesGoOn, goes_on, parts_of, text_of_thin}
 use Rattle.pq_top.specs.Optimised.{IsThinText}
 

@@ -1,5 +1,5 @@
 -- What came of the work, before its note is put and its status answered.
-use Rattle.std.specs.Prelude.{◌≡◌, ℕ, List, [], Result, Ok, Err}
+use Rattle.std.specs.Prelude.{ℕ, List, [], Err}
 use Rattle.pq_io.specs.Whole.{ReadsUpToFault, WritesUpToFault}
 use Rattle.pq_top.specs.declared.answer.Answer.{Answer}
 use Rattle.pq_top.specs.declared.answer.Refusal.{Refusal}

@@ -8,14 +8,11 @@ ghost use Rattle.pq_top.specs.Optimised.{IsThinText};
 
 use pq_gate::{Gate, GateList};
 use pq_text::{
-    RegisterSpan, after_header, gate_line_at, push_gate_line, push_header, push_register_line,
-    register_line_at,
+    MAX_GATES, RegisterSpan, after_header, gate_line_at, push_gate_line, push_header,
+    push_register_line, register_line_at,
 };
 use std::alloc::{AllocError, AllocFailed, Global};
 use std::slice;
-
-/// The most gates of a program.
-pub const MAX_GATES: usize = 1_048_576;
 
 /// Why a text gives no program.
 #[derive(Clone, Copy, Debug, PartialEq, Eq)]
@@ -83,7 +80,7 @@ fn gate_lines(alloc: Global, text: &[u8], register: &RegisterSpan) -> Result<Gat
     let mut gates = Vec::new(alloc);
     let mut rest = text;
     while !rest.is_empty() {
-        if gates.len() == MAX_GATES {
+        if gates.len() == MAX_GATES as usize {
             return Err(TextFault::Form);
         }
         let Some((gate, next)) = gate_line_at(rest, register) else {

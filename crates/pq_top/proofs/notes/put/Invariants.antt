@@ -1,4 +1,4 @@
-use Rattle.std.proofs.Common.{◌≤◌, List, ℕ, take, flat_map}
+use Rattle.std.proofs.Common.{◌≤◌, take, flat_map}
 use Rattle.std.specs.Io.KnownBytes.{Appends}
 use Rattle.pq_top.proofs.notes.put.Given as goal
 

@@ -1,4 +1,4 @@
-use Rattle.std.proofs.Common.{◌≡◌, ap, Result, Err}
+use Rattle.std.proofs.Common.{◌≡◌, ap, Err}
 use Rattle.std.specs.Result.{IsErrOf}
 use Rattle.pq_top.proofs.Refusing.{no_register, no_gates, thin_made}
 use Rattle.pq_top.proofs.thin.read_thin.Goals as goal

@@ -1,4 +1,4 @@
-use Rattle.std.proofs.Common.{◌≡◌, ℕ, ◌<◌, ◌^◌, List, length, get_or, Result, Ok, Err}
+use Rattle.std.proofs.Common.{ℕ, ◌<◌, length, get_or, Result, Ok, Err}
 use Rattle.std.proofs.lemmas.Str.Parse.{IsNumeralModel, numerals_by_value, tells_by_index, parse_digits}
 use Rattle.std.specs.Int.{IsInRange}
 use Rattle.std.specs.Option.{SomeIff}
