@@ -1,3 +1,4 @@
 mod Noting
-mod Statuses
+mod Optimising
 mod Refusing
+mod Statuses

@@ -1,3 +1,6 @@
+pub use Rattle.pq_gate.specs.Circuit
+pub use Rattle.pq_gate.specs.Matrix
+pub use Rattle.pq_gate.specs.Ring
 pub use Rattle.pq_io.specs.Faults
 pub use Rattle.pq_io.specs.Whole
 pub use Rattle.pq_text.specs.Program

@@ -1,7 +1,8 @@
 -- Which texts are accepted, and what is written for them.
 use Rattle.std.specs.Prelude.{◌≡◌, ℕ, ◌≤◌, List, length}
 use Rattle.pq_gate.specs.declared.gate.Gate.{Gate}
-use Rattle.pq_text.specs.Program.{ProgramView}
+use Rattle.pq_gate.specs.Matrix.{Same}
+use Rattle.pq_text.specs.Program.{ProgramView, places_of}
 use Rattle.pq_text.specs.WellFormed.{IsThin}
 use Rattle.pq_text.specs.Print.{print}
 use Rattle.pq_oracle.specs.Cancelled.{Cancelled}
@@ -17,13 +18,14 @@ pub record IsThinText (text : List ℕ) : Type 0 where
   pub printed : text ≡ print program
 
 -- The text is that of such a program, and the output that of the same program with the gates that are left
--- when neighbouring equal pairs are taken out.
+-- when neighbouring equal pairs are taken out. These have the same matrix on the program's wires.
 pub record IsOptimised (text output : List ℕ) : Type 0 where
   pub program : ProgramView
   pub thin : IsThin program
   pub printed : text ≡ print program
   pub gates : List Gate
   pub cancelled : Cancelled program.gates gates
+  pub same : Same (places_of program.qregs) program.gates gates 0
   pub written : output ≡ print (with_gates program gates)
 
 -- the most bytes that are accepted
