@@ -3,7 +3,7 @@ use Rattle.std.proofs.lemmas.List.{set-set, set-get_or, get_or-set_same, get_or-
 use Rattle.pq_gate.specs.Bits.{bit, toggled, same_bits}
 
 -- the value that a wire is toggled to
-abbrev changed : Bool → Bool → Bool
+abbrev pub changed : Bool → Bool → Bool
 changed by p = cond by (not p) p
 
 -- changed twice by one bit is unchanged
@@ -11,6 +11,13 @@ changed-changed : (by p : Bool) → changed by (changed by p) ≡ p
 changed-changed true true = refl
 changed-changed true false = refl
 changed-changed false p = refl
+
+-- changes by two bits may be exchanged
+pub changed_comm : (by too p : Bool) → changed by (changed too p) ≡ changed too (changed by p)
+changed_comm true true p = refl
+changed_comm true false p = refl
+changed_comm false true p = refl
+changed_comm false false p = refl
 
 pub toggled-toggled : (x : List Bool) (w : ℕ) (by : Bool) → w < length x → toggled (toggled x w by) w by ≡ x
 toggled-toggled x w by inside =

@@ -2,7 +2,9 @@ pub mod ActLaws
 pub mod BitLaws
 pub mod CircuitLaws
 pub mod EntryLaws
+pub mod ExchangeLaws
 pub mod FormLaws
 pub mod PairLaws
+pub mod RangeLaws
 pub mod RingLaws
 pub mod SameLaws
