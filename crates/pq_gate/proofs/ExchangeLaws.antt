@@ -11,7 +11,7 @@ use Rattle.pq_gate.specs.Eighths.{eighths_of}
 use Rattle.pq_gate.specs.Matrix.{through}
 use Rattle.pq_gate.specs.Ring.{plus, turned, turned_if}
 use Rattle.pq_gate.proofs.ActLaws.{turned_if-plus}
-use Rattle.pq_gate.proofs.BitLaws.{changed, changed_comm, bit-toggled_other}
+use Rattle.pq_gate.proofs.BitLaws.{toggled_comm, toggled-set, bit-toggled_other}
 use Rattle.pq_gate.proofs.RingLaws.{plus_swap, turned_comm}
 
 -- A gate turns a state where a condition holds, or changes one wire where a condition holds, or mixes
@@ -102,3 +102,95 @@ apart : (g h : Gate) (v w : ℕ) → Commutes g h → NotAlongZ g v → NotAlong
 apart g h v w commutes left right right_too is =
     ⊎_elim (λ (along : AlongZ g w × AlongZ h w). right.not along.1) (λ (along : AlongX g w × AlongX h w). right_too.not along.1)
     (commutes w (subst (Touches g) is left.uses) right.uses)
+
+turned_if_comm : (p q : Bool) (j k : ℕ) (r : Ring) → turned_if p j (turned_if q k r) ≡ turned_if q k (turned_if p j r)
+turned_if_comm true true j k r = turned_comm j k r
+turned_if_comm true false j k r = refl
+turned_if_comm false true j k r = refl
+turned_if_comm false false j k r = refl
+
+turns_turns : (p q : List Bool → Bool) (j k : ℕ) (f : List Bool → Ring) (x : List Bool) →
+    by_form (turns p j) (by_form (turns q k) f) x ≡ by_form (turns q k) (by_form (turns p j) f) x
+turns_turns p q j k f x = turned_if_comm (p x) (q x) j k (f x)
+
+turns_flips : (p q : List Bool → Bool) (j w : ℕ) → Ignores p w → (f : List Bool → Ring) (x : List Bool) →
+    by_form (turns p j) (by_form (flips w q) f) x ≡ by_form (flips w q) (by_form (turns p j) f) x
+turns_flips p q j w free f x = ap (λ (b : Bool). turned_if b j (f (toggled x w (q x)))) (sym (free x _))
+
+turns_mixes : (p : List Bool → Bool) (j w : ℕ) → Ignores p w → (f : List Bool → Ring) (x : List Bool) →
+    by_form (turns p j) (by_form (mixes w) f) x ≡ by_form (mixes w) (by_form (turns p j) f) x
+turns_mixes p j w free f x =
+    let low : Ring = f (set x w false) in
+    let high : Ring = f (set x w true) in
+    turned_if-plus (p x) j low (turned_if (bit x w) 4 high) ∙
+    ap (plus (turned_if (p x) j low)) (turned_if_comm (p x) (bit x w) j 4 high) ∙
+    (let off : p x ≡ p (set x w false) = sym (free x false) in
+    let on : p x ≡ p (set x w true) = sym (free x true) in
+    λ i. plus (turned_if (off i) j low) (turned_if (bit x w) 4 (turned_if (on i) j high)))
+
+flips_flips : (p q : List Bool → Bool) (v w : ℕ) → Ignores p w → Ignores q v → (f : List Bool → Ring) (x : List Bool) →
+    by_form (flips v p) (by_form (flips w q) f) x ≡ by_form (flips w q) (by_form (flips v p) f) x
+flips_flips p q v w p_free q_free f x =
+    ap f
+    (ap (toggled (toggled x v (p x)) w) (q_free x _) ∙ toggled_comm x v w (p x) (q x) ∙
+    ap (toggled (toggled x w (q x)) v) (sym (p_free x _)))
+
+flips_mixes : (p : List Bool → Bool) (v w : ℕ) → v ≢ w → Ignores p w → (f : List Bool → Ring) (x : List Bool) →
+    by_form (flips v p) (by_form (mixes w) f) x ≡ by_form (mixes w) (by_form (flips v p) f) x
+flips_mixes p v w differ free f x =
+    let at = λ (b : Bool). ap (toggled (set x w b) v) (free x b) ∙ toggled-set x v w (p x) b differ in
+    let low : toggled (set x w false) v (p (set x w false)) ≡ set (toggled x v (p x)) w false = at false in
+    let high : toggled (set x w true) v (p (set x w true)) ≡ set (toggled x v (p x)) w true = at true in
+    let own : bit (toggled x v (p x)) w ≡ bit x w = bit-toggled_other x v w (p x) (λ is. differ (sym is)) in
+    sym (λ i. plus (f (low i)) (turned_if (sym own i) 4 (f (high i))))
+
+mixes_mixes : (v w : ℕ) → v ≢ w → (f : List Bool → Ring) (x : List Bool) →
+    by_form (mixes v) (by_form (mixes w) f) x ≡ by_form (mixes w) (by_form (mixes v) f) x
+mixes_mixes v w differ f x =
+    let back : w ≢ v = λ is. differ (sym is) in
+    let at = λ (p q : Bool). f (set (set x v p) w q) in
+    let other : (p : Bool) → bit (set x v p) w ≡ bit x w = λ p. get_or-set_other x v w p false back in
+    let own : (q : Bool) → bit x v ≡ bit (set x w q) v = λ q. sym (get_or-set_other x w v q false differ) in
+    let swap : (p q : Bool) → at p q ≡ f (set (set x w q) v p) = λ p q. ap f (set_comm x v w p q differ) in
+    (λ i. plus (plus (at false false) (turned_if (other false i) 4 (at false true)))
+    (turned_if (bit x v) 4 (plus (at true false) (turned_if (other true i) 4 (at true true))))) ∙
+    ap (plus (plus (at false false) (turned_if (bit x w) 4 (at false true))))
+    (turned_if-plus (bit x v) 4 (at true false) (turned_if (bit x w) 4 (at true true)) ∙
+    ap (plus (turned_if (bit x v) 4 (at true false))) (turned_if_comm (bit x v) (bit x w) 4 4 (at true true))) ∙
+    plus_swap (at false false) (turned_if (bit x w) 4 (at false true)) (turned_if (bit x v) 4 (at true false))
+    (turned_if (bit x w) 4 (turned_if (bit x v) 4 (at true true))) ∙
+    ap (plus (plus (at false false) (turned_if (bit x v) 4 (at true false))))
+    (sym (turned_if-plus (bit x w) 4 (at false true) (turned_if (bit x v) 4 (at true true)))) ∙
+    (λ i. plus (plus (swap false false i) (turned_if (own false i) 4 (swap true false i)))
+    (turned_if (bit x w) 4 (plus (swap false true i) (turned_if (own true i) 4 (swap true true i)))))
+
+-- commuting gates of any two forms may be exchanged
+forms_exchange : (g h : Gate) (a b : Form) → Commutes g h → Fits g a → Fits h b → (f : List Bool → Ring) (x : List Bool) →
+    by_form a (by_form b f) x ≡ by_form b (by_form a f) x
+forms_exchange g h (turns p j) (turns q k) commutes left right f x = turns_turns p q j k f x
+forms_exchange g h (turns p j) (flips w q) commutes left right f x =
+    turns_flips p q j w (ignores g h w p commutes left right.0) f x
+forms_exchange g h (turns p j) (mixes w) commutes left right f x = turns_mixes p j w (ignores g h w p commutes left right.0) f x
+forms_exchange g h (flips v p) (turns q k) commutes left right f x =
+    sym (turns_flips q p k v (ignores h g v q (Commutes-symmetric g h commutes) right left.0) f x)
+forms_exchange g h (flips v p) (flips w q) commutes left right f x =
+    flips_flips p q v w (ignores g h w p commutes left.1 right.0)
+    (ignores h g v q (Commutes-symmetric g h commutes) right.1 left.0) f x
+forms_exchange g h (flips v p) (mixes w) commutes left right f x =
+    flips_mixes p v w (apart g h v w commutes left.0 right.0 right.1) (ignores g h w p commutes left.1 right.0) f x
+forms_exchange g h (mixes v) (turns q k) commutes left right f x =
+    sym (turns_mixes q k v (ignores h g v q (Commutes-symmetric g h commutes) right left.0) f x)
+forms_exchange g h (mixes v) (flips w q) commutes left right f x =
+    let back : Commutes h g = Commutes-symmetric g h commutes in
+    sym (flips_mixes q w v (apart h g w v back right.0 left.0 left.1) (ignores h g v q back right.1 left.0) f x)
+forms_exchange g h (mixes v) (mixes w) commutes left right f x = mixes_mixes v w (apart g h v w commutes left.0 right.0 right.1) f x
+
+-- commuting gates may be exchanged, whatever follows them
+pub through_exchange : (n : ℕ) (g h : Gate) → IsOnWires n g → IsOnWires n h → Commutes g h → (f : List Bool → Ring) →
+    through g (through h f) ≡ through h (through g f)
+through_exchange n g h g_on h_on commutes f i x =
+    (through-by_form g (through h f) x ∙
+    ap (λ (k : List Bool → Ring). by_form (form_of g) k x) (λ j z. through-by_form h f z j) ∙
+    forms_exchange g h (form_of g) (form_of h) commutes (form_fits n g g_on) (form_fits n h h_on) f x ∙
+    ap (λ (k : List Bool → Ring). by_form (form_of h) k x) (λ j z. sym (through-by_form g f z) j) ∙
+    sym (through-by_form h (through g f) x)) i

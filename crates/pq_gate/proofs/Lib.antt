@@ -4,7 +4,10 @@ pub mod CircuitLaws
 pub mod EntryLaws
 pub mod ExchangeLaws
 pub mod FormLaws
+pub mod InverseLaws
+pub mod MoveLaws
 pub mod PairLaws
+pub mod PhaseLaws
 pub mod RangeLaws
 pub mod RingLaws
 pub mod SameLaws
