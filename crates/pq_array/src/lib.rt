@@ -1,0 +1,8 @@
+//! Gates in cells, with tombstones where a gate was taken out, and a tree of counts by which the
+//! gates that are left are found by their number.
+#![tactic(auto)]
+
+pub use pq_list::RoomList;
+
+/// A list of words, with the room that was asked for.
+pub type WordList = RoomList<u64>;
