@@ -2,6 +2,10 @@
 //! gates that are left are found by their number.
 #![tactic(auto)]
 
+mod array;
+mod tree;
+
+pub use array::GateArray;
 pub use pq_list::RoomList;
 
 /// A list of words, with the room that was asked for.
