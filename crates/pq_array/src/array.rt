@@ -34,7 +34,7 @@ impl GateArray {
         requires { length gates.now ≤ 1048576 }
         ensures { IfOk result (λ array. array ≡ map (λ gate. Some gate) gates.now) }
     {
-        let cells: Vec<Option<Gate>> = gates.iter().map(|gate| Some(*gate)).collect(alloc)?;
+        let cells = live_cells(alloc, gates)?;
         let words = tree_over(alloc, &cells)?;
         Ok(GateArray { cells, words })
     }
@@ -136,10 +136,8 @@ impl GateArray {
         requires run { IsLiveRun self.old places.now }
         requires no_longer { length output.now ≤ length places.now }
         ensures cells { Replaces self.old self.new places.now output.now }
-        ensures live {
-            let first = rank self.old (slice_index places.now 0) in
-            live self.new ≡ spliced (live self.old) first (first + length places.now) output.now
-        }
+        ensures live { let first = rank self.old (slice_index places.now 0) in
+            live self.new ≡ spliced (live self.old) first (first + length places.now) output.now }
     {
         for place in &places[output.len()..] {
             lower(&mut self.words, *place as usize);
@@ -148,10 +146,18 @@ impl GateArray {
     }
 }
 
+/// One live cell for each gate.
+fn live_cells(alloc: Global, gates: &[Gate]) -> Result<Vec<Option<Gate>>, AllocError>
+    ensures { IfOk result (λ cells. cells.items ≡ map (λ gate. Some gate) gates.now) }
+{
+    gates.iter().map(|gate| Some(*gate)).collect(alloc)
+}
+
 /// Puts the output at the first of these places, in order, and tombstones at the others.
 fn put(cells: &mut [Option<Gate>], places: &[u64], output: &[Gate])
     requires inside { All (λ place. place < length cells.old) places.now }
     requires in_order { IsStrictlyIncreasing places.now }
+    requires no_longer { length output.now ≤ length places.now }
     ensures { Replaces cells.old cells.new places.now output.now }
 {
     for (number, place) in places.iter().enumerate() {
