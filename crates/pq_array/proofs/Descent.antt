@@ -1,11 +1,11 @@
-use Rattle.std.proofs.Common.{◌≡◌, ℕ, zero, suc, ◌+◌, ◌-◌, ◌*◌, ◌/◌, ◌^◌, ◌<◌, ◌≤◌, ◌⊎◌, inl, inr, ⊎_elim, Option, Some, None, List, length, get_or, IsNone, IfSome, ◌↔◌, refl, ap, sym, subst, ◌∙◌, arith, rules}
+use Rattle.std.proofs.Common.{◌≡◌, ℕ, zero, suc, ◌+◌, ◌-◌, ◌*◌, ◌/◌, ◌^◌, ◌<◌, ◌≤◌, ◌⊎◌, inl, inr, ⊎_elim, Option, Some, None, List, length, get_or, slice_get, IsNone, IfSome, ◌↔◌, refl, ap, sym, subst, ◌∙◌, arith, rules}
 use Rattle.std.proofs.lemmas.Bool.{cases_lt}
 use Rattle.std.proofs.lemmas.Nat.{pow_pos}
 use Rattle.std.proofs.Math.Nat.{le-mul_of_pos_right}
 use Rattle.pq_array.specs.Cells.{live, IsLive, rank}
 use Rattle.pq_array.specs.Tree.{IsTreeOf}
 use Rattle.pq_array.proofs.Halving.{double, over_some, over_below, over_end}
-use Rattle.pq_array.proofs.Ranks.{live_or_not, rank-le, rank-lt, rank-suc_live, rank-suc_dead, rank-le-live, length-live-le, rank_end}
+use Rattle.pq_array.proofs.Ranks.{live_or_not, rank-le, rank-lt, get_live, rank-suc_live, rank-suc_dead, rank-le-live, length-live-le, rank_end}
 use Rattle.pq_array.proofs.Spans.{Spans, Spans-from_Counts}
 
 -- what the tree's words are, in one power of two
@@ -242,6 +242,10 @@ seeks_right {A} {cells} {words} {width} {number} {node} {rest} tree is lt many a
 pub record IsNumbered {A : Type 0} (cells : List (Option A)) (number place : ℕ) : Type 0 where
   pub here : IsLive cells place
   pub number_is : rank cells place ≡ number
+
+-- which is the live gate of the number
+pub numbered_gate : {A : Type 0} {cells : List (Option A)} {number place : ℕ} → IsNumbered cells number place → get_or cells place None ≡ slice_get (live cells) number
+numbered_gate {A} {cells} {number} {place} at = sym (rw at.number_is at (get_live cells place at.here))
 
 -- at a leaf it is found
 pub sought : {A : Type 0} {cells : List (Option A)} {words : List ℕ} {width number node rest : ℕ} → IsTreeOf cells words → width ≡ length words / 2 → width ≤ node →

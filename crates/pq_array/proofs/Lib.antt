@@ -6,3 +6,4 @@ pub mod Climb
 pub mod CountUp
 pub mod Replacing
 pub mod Lowering
+pub mod TreeLaws

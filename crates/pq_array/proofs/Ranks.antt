@@ -1,4 +1,4 @@
-use Rattle.std.proofs.Common.{◌≡◌, ℕ, zero, suc, ◌+◌, ◌-◌, ◌<◌, ◌≤◌, ◌⊎◌, inl, inr, Option, Some, None, List, [], ◌∷◌, ◌++◌, length, take, drop, set, get_or, slice_get, refl, ap, sym, ◌∙◌, arith, add-one, rules}
+use Rattle.std.proofs.Common.{◌≡◌, ℕ, zero, suc, ◌+◌, ◌-◌, ◌<◌, ◌≤◌, ◌⊎◌, inl, inr, Option, Some, None, List, [], ◌∷◌, ◌++◌, map, length, take, drop, set, get_or, slice_get, refl, ap, sym, ◌∙◌, arith, add-one, rules}
 use Rattle.std.proofs.lemmas.List.{take_all}
 use Rattle.pq_array.specs.Cells.{live, IsLive, rank}
 
@@ -73,6 +73,11 @@ rank_stays cells p (suc more) dead =
     let so_far : rank cells (p + more) ≡ rank cells p = rank_stays cells p more (λ place low high. dead place low (omega arith)) in
     let step : p + suc more ≡ suc (p + more) = omega arith in
     rw step (last ∙ so_far)
+
+-- where each cell holds a gate, all gates are live
+pub live-map_some : {A : Type 0} (gates : List A) → live (map (λ gate. Some gate) gates) ≡ gates
+live-map_some [] = refl
+live-map_some {A} (gate ∷ gates) = ap (λ (rest : List A). gate ∷ rest) (live-map_some gates)
 
 -- the gate at a live place is the live gate of the number that is the rank
 pub get_live : {A : Type 0} (cells : List (Option A)) (place : ℕ) → IsLive cells place → slice_get (live cells) (rank cells place) ≡ get_or cells place None

@@ -162,7 +162,7 @@ Replaces-cons cells place places cell new output rest rising inside first others
     listed (suc i) lt = after.listed i (omega arith) ∙ sym (others i)
 
 -- numbers that rise do so behind the first
-rising_tail : (x : ℕ) (xs : List ℕ) → IsStrictlyIncreasing (x ∷ xs) → IsStrictlyIncreasing xs
+pub rising_tail : (x : ℕ) (xs : List ℕ) → IsStrictlyIncreasing (x ∷ xs) → IsStrictlyIncreasing xs
 rising_tail x xs rising k lt =
     let next : suc k + 1 ≡ suc (k + 1) = omega arith in
     rw next at (rising (suc k) (omega arith))
@@ -210,3 +210,41 @@ replaced_more {A} cells (place ∷ places) [] (suc i) lt =
     let none : drop i [] ≡ [] = drop_all {X = A} i [] (omega arith) in
     rw none at (replaced_more cells places [] i (omega arith))
 replaced_more cells (place ∷ places) (gate ∷ output) (suc i) lt = replaced_more cells places output i (omega arith)
+
+-- a place of a lower rank stands before
+run_order : {A : Type 0} (cells : List (Option A)) (p q : ℕ) → rank cells p < rank cells q → p < q
+run_order cells p q lt = ⊎_elim (λ less. less) (λ le. absurd (omega (arith, rank-le cells q p le))) (cases_lt p q)
+
+-- live places of one rank are one
+rank_one : {A : Type 0} (cells : List (Option A)) (p q : ℕ) → IsLive cells p → IsLive cells q → rank cells p ≡ rank cells q → p ≡ q
+rank_one cells p q here there same =
+    ⊎_elim (λ less. absurd (omega (arith, rank-lt cells p q here less)))
+    (λ le. ⊎_elim (λ less. absurd (omega (arith, rank-lt cells q p there less))) (λ ge. omega arith) (cases_lt q p))
+    (cases_lt p q)
+
+-- live places whose ranks follow one another are those of a live run
+pub run_from_ranks : {A : Type 0} (cells : List (Option A)) (first : ℕ) (places : List ℕ) → RunAt cells first places → IsLiveRun cells places
+run_from_ranks cells first places run = record {
+  all_live = λ i d lt. rw (get_or_default places i d 0 lt) (run i lt).0;
+  in_order = λ i lt. run_order cells (get_or places i 0) (get_or places (i + 1) 0) (omega (arith, (run i (omega arith)).1, (run (i + 1) lt).1));
+  whole = λ place low high here at_low at_high from to. between place low high here at_low at_high from to;
+}
+  where
+    rank_of : (place : ℕ) (among : Contains places place) → rank cells place ≡ first + among.0
+    rank_of place (k, lt, is) =
+        let at : get_or places k 0 ≡ place = get_or_default places k 0 place lt ∙ is in
+        rw at at (run k lt).1
+    live_of : (place : ℕ) (among : Contains places place) → IsLive cells place
+    live_of place (k, lt, is) =
+        let at : get_or places k 0 ≡ place = get_or_default places k 0 place lt ∙ is in
+        rw at at (run k lt).0
+    between : (place low high : ℕ) → IsLive cells place → Contains places low → Contains places high → low < place → place < high → Contains places place
+    between place low high here at_low at_high from to =
+        let above : rank cells low < rank cells place = rank-lt cells low place (live_of low at_low) from in
+        let below : rank cells place < rank cells high = rank-lt cells place high here to in
+        let lows : rank cells low ≡ first + at_low.0 = rank_of low at_low in
+        let highs : rank cells high ≡ first + at_high.0 = rank_of high at_high in
+        let inside : rank cells place - first < length places = omega (arith, at_high.1) in
+        let same : get_or places (rank cells place - first) 0 ≡ place =
+        rank_one cells (get_or places (rank cells place - first) 0) place (run (rank cells place - first) inside).0 here (omega (arith, (run (rank cells place - first) inside).1)) in
+        (rank cells place - first, inside, get_or_default places (rank cells place - first) place 0 inside ∙ same)

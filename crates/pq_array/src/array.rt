@@ -32,7 +32,8 @@ impl GateArray {
     /// The array with one live cell for each of at most 1,048,576 gates.
     pub fn open(alloc: Global, gates: &[Gate]) -> Result<GateArray, AllocError>
         requires { length gates.now ≤ 1048576 }
-        ensures { IfOk result (λ array. array ≡ map (λ gate. Some gate) gates.now) }
+        ensures cells { IfOk result (λ array. array ≡ map (λ gate. Some gate) gates.now) }
+        ensures live { IfOk result (λ array. live array ≡ gates.now) }
     {
         let cells = live_cells(alloc, gates)?;
         let words = tree_over(alloc, &cells)?;
@@ -72,7 +73,7 @@ impl GateArray {
         let width = self.words.len() / 2;
         let mut offset = place as usize;
         if offset >= width {
-            return self.words[1];
+            return self.live();
         }
         let mut before = 0;
         let mut node = 1;
@@ -96,6 +97,7 @@ impl GateArray {
         ensures none { IsNone result ↔ (length (live self.now) ≤ number) }
         ensures live { IfSome result (IsLive self.now) }
         ensures number { IfSome result (λ place. rank self.now place ≡ number) }
+        ensures gate { IfSome result (λ place. slice_index_or self.now place None ≡ slice_get (live self.now) number) }
     {
         if number >= self.live() {
             return None;
@@ -121,7 +123,9 @@ impl GateArray {
         ensures none { IsNone result ↔ ((later : ℕ) → place ≤ later → IsLive self.now later → ⊥) }
         ensures live { IfSome result (IsLive self.now) }
         ensures after { IfSome result (λ next. place ≤ next) }
-        ensures least { IfSome result (λ next. (later : ℕ) → place ≤ later → IsLive self.now later → next ≤ later) }
+        ensures least {
+            IfSome result (λ next. (later : ℕ) → place ≤ later → IsLive self.now later → next ≤ later)
+        }
     {
         if place < self.cells() {
             self.select(self.rank(place))

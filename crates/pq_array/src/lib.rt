@@ -3,10 +3,13 @@
 #![tactic(auto)]
 
 mod array;
+mod laws;
 mod tree;
 
 pub use array::GateArray;
-pub use pq_list::RoomList;
+pub use laws::{rank_laws, run_law, tree_laws};
+
+use pq_list::RoomList;
 
 /// A list of words, with the room that was asked for.
 pub type WordList = RoomList<u64>;

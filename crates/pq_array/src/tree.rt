@@ -49,7 +49,8 @@ fn leaf_word(cells: &[Option<Gate>], place: usize) -> u64
 /// Takes one from each word on the way from the leaf of this place to the root.
 pub fn lower(words: &mut [u64], place: usize)
     requires leaf { place < length words.old / 2 }
-    requires counted { (node : ℕ) → 1 ≤ node → HalvesTo (length words.old / 2 + place) node → 1 ≤ slice_index words.old node }
+    requires counted { (node : ℕ) → 1 ≤ node → HalvesTo (length words.old / 2 + place) node →
+        1 ≤ slice_index words.old node }
     ensures { IsLowered (length words.old / 2) place words.old words.new }
 {
     let mut node = words.len() / 2 + place;

@@ -9,9 +9,7 @@ returns-then-offset-width c =
     let cells = c.self.inside.cells.items in
     let words = c.self.inside.words.items in
     let width : c.len-width.result / 2 ≡ length words / 2 = ap (λ (x : ℕ). x / 2) (c.len-width.ensures ∙ c.self.inside.words.ok.0) in
-    rw (← c.self.view_is)
-    (get_or_read words 1 c.index.result.now (root_inside c.self.invariant) c.index.ensures 0
-    ∙ (root_counts cells words c.self.invariant ∙ sym (rank_past cells words c.args.place c.self.invariant (omega arith))))
+    c.live.ensures ∙ rw (← c.self.view_is) (sym (rank_past cells words c.args.place c.self.invariant (omega arith)))
 
 pub loop-half-init : goal.loop-half-init
 loop-half-init c =
@@ -24,8 +22,8 @@ overflow_add-before c =
     let words = c.self.inside.words.items in
     let width : c.len-width.result / 2 ≡ length words / 2 = ap (λ (x : ℕ). x / 2) (c.len-width.ensures ∙ c.self.inside.words.ok.0) in
     let inside : 2 * c.loop-half.node < length words = omega (arith, children_inside c.loop-half-test.true c.loop-half.invariant, words_pair c.self.invariant) in
-    let word : c.index-else-offset-half.result.now ≡ get_or words (2 * c.loop-half.node) 0 =
-    get_or_read words (2 * c.loop-half.node) c.index-else-offset-half.result.now inside c.index-else-offset-half.ensures 0 in
+    let word : c.index.result.now ≡ get_or words (2 * c.loop-half.node) 0 =
+    get_or_read words (2 * c.loop-half.node) c.index.result.now inside c.index.ensures 0 in
     let few : c.loop-half.before + get_or words (2 * c.loop-half.node) 0 ≤ length cells =
     counted_fits cells words c.loop-half.node c.args.place c.loop-half.before (c.len-width.result / 2) c.loop-half.offset c.loop-half.half
     c.self.invariant width c.loop-half-test.true c.loop-half.invariant in
@@ -40,8 +38,8 @@ loop-half-preserved c =
       | then-offset-half w ↦ rw (w.node-is, w.offset-is, w.before-is) (goes_left c.loop-half-test.true w.if-offset-half.true c.loop-half.invariant)
       | else-offset-half w ↦
           let inside : 2 * c.loop-half.node < length words = omega (arith, children_inside c.loop-half-test.true c.loop-half.invariant, words_pair c.self.invariant) in
-          let word : w.index-else-offset-half.result.now ≡ get_or words (2 * c.loop-half.node) 0 =
-          get_or_read words (2 * c.loop-half.node) w.index-else-offset-half.result.now inside w.index-else-offset-half.ensures 0 in
+          let word : w.index.result.now ≡ get_or words (2 * c.loop-half.node) 0 =
+          get_or_read words (2 * c.loop-half.node) w.index.result.now inside w.index.ensures 0 in
           rw (w.node-is, w.offset-is, w.before-is, word) (goes_right words c.self.invariant width c.loop-half-test.true w.if-offset-half.false c.loop-half.invariant)
     ]
 

@@ -1,6 +1,6 @@
 use Rattle.std.proofs.Common.{◌≡◌, ◌*◌, ◌/◌, ◌<◌, ℕ, length, get_or, arith, ap, sym, ◌∙◌}
 use Rattle.std.proofs.lemmas.List.{get_or_read}
-use Rattle.pq_array.proofs.Descent.{seeks, seeks_left, seeks_right, sought, children_below, words_pair}
+use Rattle.pq_array.proofs.Descent.{seeks, seeks_left, seeks_right, sought, numbered_gate, children_below, words_pair}
 use Rattle.pq_array.proofs.array.GateArray.select.Goals as goal
 
 pub loop-node-init : goal.loop-node-init
@@ -36,3 +36,8 @@ pub returns-clause-number : goal.returns-clause-number
 returns-clause-number c =
     let width : c.len-width.result / 2 ≡ length c.self.inside.words.items / 2 = ap (λ (x : ℕ). x / 2) (c.len-width.ensures ∙ c.self.inside.words.ok.0) in
     rw (← c.self.view_is) (sought c.self.invariant width c.loop-node-test.false c.loop-node.invariant).number_is
+
+pub returns-clause-gate : goal.returns-clause-gate
+returns-clause-gate c =
+    let width : c.len-width.result / 2 ≡ length c.self.inside.words.items / 2 = ap (λ (x : ℕ). x / 2) (c.len-width.ensures ∙ c.self.inside.words.ok.0) in
+    rw (← c.self.view_is) (numbered_gate (sought c.self.invariant width c.loop-node-test.false c.loop-node.invariant))
