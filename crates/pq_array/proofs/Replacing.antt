@@ -1,6 +1,6 @@
 use Rattle.std.proofs.Common.{◌≡◌, ◌≢◌, ℕ, zero, suc, ◌+◌, ◌-◌, ◌<◌, ◌≤◌, ◌⊎◌, inl, inr, ⊎_elim, Option, Some, None, Bool, true, false, List, [], ◌∷◌, ◌++◌, map, length, take, drop, set, get_or, slice_get, is_some, refl, ap, sym, subst, ◌∙◌, arith, rules, length-set, length-append, append_assoc, append-nil, get_or-set_same, get_or-set_other, take-append-drop}
 use Rattle.std.proofs.lemmas.Bool.{cases_lt, cases_eq}
-use Rattle.std.proofs.lemmas.List.{map-set, set-get_or, take_at, drop_at, drop-drop, length-take-le, drop-set-lt, take_more_set, get_or-drop, length-drop, get_or_default, ext_get_or, drop_all}
+use Rattle.std.proofs.lemmas.List.{map-set, set-get_or, take_at, drop_at, drop-drop, length-take-le, drop-set-lt, take_more_set, get_or-drop, length-drop, get_or_default, ext_get_or, drop_all, get_or_append_left, get_or_push}
 use Rattle.std.proofs.lemmas.List.Kept.{AllPairs-from_increasing}
 use Rattle.std.proofs.lemmas.List.Elements.{Contains-get_or}
 use Rattle.std.specs.List.{All, Contains, AllPairs}
@@ -234,10 +234,12 @@ run_from_ranks cells first places run = record {
     rank_of place (k, lt, is) =
         let at : get_or places k 0 ≡ place = get_or_default places k 0 place lt ∙ is in
         rw at at (run k lt).1
+
     live_of : (place : ℕ) (among : Contains places place) → IsLive cells place
     live_of place (k, lt, is) =
         let at : get_or places k 0 ≡ place = get_or_default places k 0 place lt ∙ is in
         rw at at (run k lt).0
+
     between : (place low high : ℕ) → IsLive cells place → Contains places low → Contains places high → low < place → place < high → Contains places place
     between place low high here at_low at_high from to =
         let above : rank cells low < rank cells place = rank-lt cells low place (live_of low at_low) from in
@@ -248,3 +250,16 @@ run_from_ranks cells first places run = record {
         let same : get_or places (rank cells place - first) 0 ≡ place =
         rank_one cells (get_or places (rank cells place - first) 0) place (run (rank cells place - first) inside).0 here (omega (arith, (run (rank cells place - first) inside).1)) in
         (rank cells place - first, inside, get_or_default places (rank cells place - first) place 0 inside ∙ same)
+
+-- one live gate more
+pub run_push : {A : Type 0} (cells : List (Option A)) (first place : ℕ) (places : List ℕ) → RunAt cells first places → IsLive cells place →
+    rank cells place ≡ first + length places → RunAt cells first (places ++ place ∷ [])
+run_push cells first place places run here is i lt = ⊎_elim before last (cases_lt i (length places))
+  where
+    before : i < length places → IsLive cells (get_or (places ++ place ∷ []) i 0) × (rank cells (get_or (places ++ place ∷ []) i 0) ≡ first + i)
+    before less = rw (get_or_append_left places (place ∷ []) 0 i less) (run i less)
+
+    last : length places ≤ i → IsLive cells (get_or (places ++ place ∷ []) i 0) × (rank cells (get_or (places ++ place ∷ []) i 0) ≡ first + i)
+    last le =
+        let end : length places ≡ i = omega (arith, length-append places (place ∷ [])) in
+        rw (get_or_push places place 0 i end, ← end) (here, is)

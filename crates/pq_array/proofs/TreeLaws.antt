@@ -62,6 +62,7 @@ Counts-one words other places left right same node some =
   where
     width : 2 ^ right.height ≡ 2 ^ left.height
     width = omega (arith, left.size, right.size)
+
     inside : node < 2 * 2 ^ left.height → get_or words node 0 ≡ get_or other node 0
     inside lt =
         let below : node < 2 * 2 ^ right.height = omega (arith, width) in
@@ -82,18 +83,21 @@ Counts-sum words places counts node some lt = by (over_places counts.height (2 *
         let two : 2 ^ suc k ≡ 2 * 2 ^ k = double k in
         HowMany-either (λ place. place < 2 ^ counts.height)
         (λ place inside at.
-            let within : (low ≤ place) × (place < low + 2 ^ suc k) = inside_halves counts.height node low (suc k) place whole over.inside inside at in
-            ⊎_elim (λ less. inl (halves_inside (2 ^ counts.height) (2 * node) low k place over.is within.0 less))
-            (λ le. inr (halves_inside (2 ^ counts.height) (2 * node + 1) (low + 2 ^ k) k place right le (omega (arith, within.1)))) (cases_lt place (low + 2 ^ k)))
+        let within : (low ≤ place) × (place < low + 2 ^ suc k) = inside_halves counts.height node low (suc k) place whole over.inside inside at in
+        ⊎_elim (λ less. inl (halves_inside (2 ^ counts.height) (2 * node) low k place over.is within.0 less))
+        (λ le. inr (halves_inside (2 ^ counts.height) (2 * node + 1) (low + 2 ^ k) k place right le (omega (arith, within.1)))) (cases_lt place (low + 2 ^ k)))
         (λ place inside at.
-            let within : (low ≤ place) × (place < low + 2 ^ k) = inside_halves counts.height (2 * node) low k place over.is over.inside inside at in
-            halves_inside (2 ^ counts.height) node low (suc k) place whole within.0 (omega (arith, within.1)))
+        let within : (low ≤ place) × (place < low + 2 ^ k) = inside_halves counts.height (2 * node) low k place over.is over.inside inside at in
+        halves_inside (2 ^ counts.height) node low (suc k) place whole within.0 (omega (arith, within.1)))
         (λ place inside at.
-            let within : (low + 2 ^ k ≤ place) × (place < low + 2 ^ k + 2 ^ k) = inside_halves counts.height (2 * node + 1) (low + 2 ^ k) k place right fits inside at in
-            halves_inside (2 ^ counts.height) node low (suc k) place whole (omega (arith, within.0)) (omega (arith, within.1)))
+        let within : (low + 2 ^ k ≤ place) × (place < low + 2 ^ k + 2 ^ k) = inside_halves counts.height (2 * node + 1) (low + 2 ^ k) k place right fits inside at in
+        halves_inside (2 ^ counts.height) node low (suc k) place whole (omega (arith, within.0)) (omega (arith, within.1)))
         (λ place inside first second.
-            omega (arith, (inside_halves counts.height (2 * node) low k place over.is over.inside inside first).1,
-            (inside_halves counts.height (2 * node + 1) (low + 2 ^ k) k place right fits inside second).0))
+        omega (
+          arith,
+          (inside_halves counts.height (2 * node) low k place over.is over.inside inside first).1,
+          (inside_halves counts.height (2 * node + 1) (low + 2 ^ k) k place right fits inside second).0,
+        ))
         places (recursion_from_All (λ place. place < 2 ^ counts.height) places counts.in_range)
         (get_or words node 0) (get_or words (2 * node) 0) (get_or words (2 * node + 1) 0)
         (counts.counted node some (omega (arith, counts.size)))
@@ -123,6 +127,6 @@ Counts-other_leaf words places counts width place size inside out =
     rw power
     (HowMany-none places (get_or words (2 ^ counts.height + place) 0)
     (λ other at halves.
-        let same : other ≡ place = leaf_of counts.height place other (omega arith) (All-contains (λ p. p < 2 ^ counts.height) places other counts.in_range at) halves in
-        out (subst (Contains places) same at))
+    let same : other ≡ place = leaf_of counts.height place other (omega arith) (All-contains (λ p. p < 2 ^ counts.height) places other counts.in_range at) halves in
+    out (subst (Contains places) same at))
     (counts.counted (2 ^ counts.height + place) (omega (arith, pow_pos counts.height)) (omega arith)))

@@ -123,9 +123,7 @@ impl GateArray {
         ensures none { IsNone result ↔ ((later : ℕ) → place ≤ later → IsLive self.now later → ⊥) }
         ensures live { IfSome result (IsLive self.now) }
         ensures after { IfSome result (λ next. place ≤ next) }
-        ensures least {
-            IfSome result (λ next. (later : ℕ) → place ≤ later → IsLive self.now later → next ≤ later)
-        }
+        ensures least { IfSome result (λ next. (later : ℕ) → place ≤ later → IsLive self.now later → next ≤ later) }
     {
         if place < self.cells() {
             self.select(self.rank(place))

@@ -4,11 +4,12 @@
 
 mod array;
 mod laws;
+#[cfg(test)]
+mod tests;
 mod tree;
 
 pub use array::GateArray;
 pub use laws::{rank_laws, run_law, tree_laws};
-
 use pq_list::RoomList;
 
 /// A list of words, with the room that was asked for.
