@@ -1,7 +1,6 @@
-use Rattle.std.proofs.Common.{◌≡◌, ◌≢◌, ℕ, zero, suc, ◌+◌, ◌-◌, ◌*◌, ◌/◌, ◌^◌, ◌<◌, ◌≤◌, ◌⊎◌, inl, inr, ⊎_elim, Option, List, length, set, get_or, refl, ap, sym, subst, ◌∙◌, arith, rules, length-set, get_or-set_same, get_or-set_other}
-use Rattle.std.proofs.lemmas.Bool.{cases_lt, cases_eq}
-use Rattle.std.proofs.lemmas.Nat.{pow_pos}
-use Rattle.pq_array.specs.Cells.{live, IsLive, rank}
+use Rattle.std.proofs.Common.{◌≡◌, ◌≢◌, ℕ, zero, suc, ◌+◌, ◌-◌, ◌*◌, ◌^◌, ◌<◌, ◌≤◌, ⊎_elim, Option, List, length, set, get_or, ap, arith, get_or-set_same, get_or-set_other}
+use Rattle.std.proofs.lemmas.Bool.{cases_eq}
+use Rattle.pq_array.specs.Cells.{IsLive, rank}
 use Rattle.pq_array.proofs.Halving.{double, OverPlaces, over_places, over_some, over_below}
 use Rattle.pq_array.proofs.Ranks.{live_or_not, rank-suc_live, rank-suc_dead, rank-le-live, length-live-le}
 use Rattle.pq_array.proofs.Spans.{Spans}

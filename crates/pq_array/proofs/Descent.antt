@@ -1,10 +1,10 @@
-use Rattle.std.proofs.Common.{◌≡◌, ℕ, zero, suc, ◌+◌, ◌-◌, ◌*◌, ◌/◌, ◌^◌, ◌<◌, ◌≤◌, ◌⊎◌, inl, inr, ⊎_elim, Option, Some, None, List, length, get_or, slice_get, IsNone, IfSome, ◌↔◌, refl, ap, sym, subst, ◌∙◌, arith, rules}
+use Rattle.std.proofs.Common.{◌≡◌, ℕ, zero, suc, ◌+◌, ◌-◌, ◌*◌, ◌/◌, ◌^◌, ◌<◌, ◌≤◌, ⊎_elim, Option, Some, None, List, length, get_or, slice_get, IsNone, IfSome, ◌↔◌, refl, ap, sym, ◌∙◌, arith}
 use Rattle.std.proofs.lemmas.Bool.{cases_lt}
 use Rattle.std.proofs.lemmas.Nat.{pow_pos}
 use Rattle.std.proofs.Math.Nat.{le-mul_of_pos_right}
 use Rattle.pq_array.specs.Cells.{live, IsLive, rank}
 use Rattle.pq_array.specs.Tree.{IsTreeOf}
-use Rattle.pq_array.proofs.Halving.{double, over_some, over_below, over_end}
+use Rattle.pq_array.proofs.Halving.{double, over_below, over_end}
 use Rattle.pq_array.proofs.Ranks.{live_or_not, rank-le, rank-lt, get_live, rank-suc_live, rank-suc_dead, rank-le-live, length-live-le, rank_end}
 use Rattle.pq_array.proofs.Spans.{Spans, Spans-from_Counts}
 

@@ -1,12 +1,10 @@
-use Rattle.std.proofs.Common.{◌≡◌, ◌≢◌, ℕ, zero, suc, ◌+◌, ◌-◌, ◌*◌, ◌/◌, ◌^◌, ◌<◌, ◌≤◌, ◌⊎◌, inl, inr, ⊎_elim, Option, Some, None, Bool, true, false, List, [], ◌∷◌, ◌++◌, map, length, take, drop, set, get_or, is_some, refl, ap, sym, subst, ◌∙◌, arith, rules, length-set, get_or-set_other}
-use Rattle.std.proofs.lemmas.Bool.{cases_lt}
+use Rattle.std.proofs.Common.{◌≡◌, ◌≢◌, ℕ, zero, suc, ◌+◌, ◌-◌, ◌/◌, ◌^◌, ◌<◌, ◌≤◌, Option, Some, None, Bool, true, false, List, [], ◌∷◌, ◌++◌, map, length, take, drop, set, get_or, is_some, refl, ap, sym, ◌∙◌, arith}
 use Rattle.std.proofs.lemmas.List.{map-set, set-get_or, get_or-map, get_or-take, length-take-le, take_more, take_all, take_rest, take_at}
 use Rattle.std.proofs.lemmas.Nat.{shr_le}
 use Rattle.pq_array.specs.Cells.{live, spliced, IsLive, IsLiveRun, rank, Replaces}
-use Rattle.pq_array.specs.Counts.{HalvesTo, IsLowered, Counts}
+use Rattle.pq_array.specs.Counts.{HalvesTo, IsLowered}
 use Rattle.pq_array.specs.Tree.{IsTreeOf}
-use Rattle.pq_array.proofs.Halving.{over_below}
-use Rattle.pq_array.proofs.Ranks.{live_inside, rank-le}
+use Rattle.pq_array.proofs.Ranks.{live_inside}
 use Rattle.pq_array.proofs.Spans.{Spans, Spans-lowered, counted_on_the_way, Counts-from_Spans}
 use Rattle.pq_array.proofs.Descent.{Counting, counting}
 use Rattle.pq_array.proofs.Replacing.{cleared, replaced, RunAt, run_at, run_drop, run_some, live_still, Replaces-one, Replaces-replaced, live-replaced}

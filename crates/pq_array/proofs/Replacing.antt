@@ -1,13 +1,12 @@
-use Rattle.std.proofs.Common.{◌≡◌, ◌≢◌, ℕ, zero, suc, ◌+◌, ◌-◌, ◌<◌, ◌≤◌, ◌⊎◌, inl, inr, ⊎_elim, Option, Some, None, Bool, true, false, List, [], ◌∷◌, ◌++◌, map, length, take, drop, set, get_or, slice_get, is_some, refl, ap, sym, subst, ◌∙◌, arith, rules, length-set, length-append, append_assoc, append-nil, get_or-set_same, get_or-set_other, take-append-drop}
+use Rattle.std.proofs.Common.{◌≡◌, ◌≢◌, ℕ, zero, suc, ◌+◌, ◌-◌, ◌<◌, ◌≤◌, ◌⊎◌, inl, inr, ⊎_elim, Option, Some, None, List, [], ◌∷◌, ◌++◌, length, take, drop, set, get_or, slice_get, refl, ap, sym, ◌∙◌, arith, length-set, length-append, append_assoc, get_or-set_same, get_or-set_other, take-append-drop}
 use Rattle.std.proofs.lemmas.Bool.{cases_lt, cases_eq}
-use Rattle.std.proofs.lemmas.List.{map-set, set-get_or, take_at, drop_at, drop-drop, length-take-le, drop-set-lt, take_more_set, get_or-drop, length-drop, get_or_default, ext_get_or, drop_all, get_or_append_left, get_or_push}
+use Rattle.std.proofs.lemmas.List.{take_at, drop_at, drop-drop, length-take-le, drop-set-lt, take_more_set, get_or-drop, length-drop, get_or_default, ext_get_or, drop_all, get_or_append_left, get_or_push}
 use Rattle.std.proofs.lemmas.List.Kept.{AllPairs-from_increasing}
 use Rattle.std.proofs.lemmas.List.Elements.{Contains-get_or}
-use Rattle.std.specs.List.{All, Contains, AllPairs}
+use Rattle.std.specs.List.{Contains}
 use Rattle.std.specs.List.Sorted.{IsStrictlyIncreasing}
 use Rattle.pq_array.specs.Cells.{live, IsLive, IsLiveRun, rank, Replaces, spliced}
-use Rattle.pq_array.proofs.Ranks.{rank-le, rank-lt, rank-suc_live, rank_stays, rank-le-live, live-set_some, live-set_none, rank-set_some, rank-set_before, rank-set_behind}
-use Rattle.pq_array.proofs.Spans.{Spans}
+use Rattle.pq_array.proofs.Ranks.{rank-le, rank-lt, rank-suc_live, rank_stays, rank-le-live, live-set_some, live-set_none, rank-set_some, rank-set_behind}
 
 -- tombstones at these places
 abbrev pub cleared : {A : Type 0} → List (Option A) → List ℕ → List (Option A)

@@ -1,13 +1,12 @@
-use Rattle.std.proofs.Common.{◌≡◌, ℕ, zero, suc, ◌+◌, ◌-◌, ◌*◌, ◌/◌, ◌^◌, ◌<◌, ◌≤◌, ◌⊎◌, inl, inr, ⊎_elim, min, Option, Some, None, List, [], ◌∷◌, length, set, get_or, refl, ap, sym, subst, ◌∙◌, arith, rules}
+use Rattle.std.proofs.Common.{◌≡◌, ℕ, zero, suc, ◌+◌, ◌-◌, ◌*◌, ◌^◌, ◌<◌, ◌≤◌, ⊎_elim, min, Option, Some, None, List, [], ◌∷◌, length, set, get_or, refl, ap, subst, arith}
 use Rattle.std.proofs.lemmas.Bool.{cases_lt}
-use Rattle.std.proofs.lemmas.Nat.{pow_pos}
 use Rattle.std.proofs.lemmas.List.Elements.{All-from_recursion}
-use Rattle.std.specs.List.{All, AllByRecursion}
+use Rattle.std.specs.List.{AllByRecursion}
 use Rattle.std.specs.List.Sorted.{IsStrictlyIncreasing}
-use Rattle.pq_array.specs.Cells.{live, IsLive, rank, live_places, live_places_from}
+use Rattle.pq_array.specs.Cells.{IsLive, rank, live_places, live_places_from}
 use Rattle.pq_array.specs.Counts.{HalvesTo, HowMany, none, one_more, no_more, Counts, IsLowered}
-use Rattle.pq_array.proofs.Halving.{double, halves_inside, inside_halves, OverPlaces, over_places, over_some, over_below, over_end}
-use Rattle.pq_array.proofs.Ranks.{rank-nil, rank-le, rank-lt, rank-suc_live, rank-set_before, rank-set_behind}
+use Rattle.pq_array.proofs.Halving.{halves_inside, inside_halves, OverPlaces, over_places, over_some, over_below}
+use Rattle.pq_array.proofs.Ranks.{rank-nil, rank-le, rank-lt, rank-set_before, rank-set_behind}
 
 -- each node's word is by how much the rank rises over its places
 abbrev pub Spans : {A : Type 0} → ℕ → List (Option A) → List ℕ → Type 0

@@ -1,14 +1,14 @@
-use Rattle.std.proofs.Common.{◌≡◌, ℕ, zero, suc, ◌+◌, ◌-◌, ◌*◌, ◌/◌, ◌^◌, ◌<◌, ◌≤◌, ◌⊎◌, inl, inr, ⊎_elim, List, [], ◌∷◌, length, get_or, refl, ap, sym, subst, ◌∙◌, arith, rules}
+use Rattle.std.proofs.Common.{◌≡◌, ℕ, zero, suc, ◌+◌, ◌*◌, ◌^◌, ◌<◌, ◌≤◌, ◌⊎◌, inl, inr, ⊎_elim, List, [], ◌∷◌, length, get_or, refl, ap, sym, subst, ◌∙◌, arith}
 use Rattle.std.proofs.lemmas.Bool.{cases_lt}
 use Rattle.std.proofs.lemmas.List.{get_or_past}
 use Rattle.std.proofs.lemmas.List.Elements.{All-contains, recursion_from_All}
 use Rattle.std.proofs.lemmas.List.Kept.{AllPairs-from_increasing}
 use Rattle.std.proofs.lemmas.Nat.{pow_pos}
-use Rattle.std.specs.List.{All, AllByRecursion, Contains}
+use Rattle.std.specs.List.{AllByRecursion, Contains}
 use Rattle.std.specs.List.Sorted.{IsStrictlyIncreasing}
 use Rattle.pq_array.specs.Counts.{HalvesTo, HowMany, none, one_more, no_more, Counts}
-use Rattle.pq_array.proofs.Halving.{double, halves_inside, inside_halves, OverPlaces, over_places, over_some, over_below}
-use Rattle.pq_array.proofs.Descent.{left_child, right_child, right_inside}
+use Rattle.pq_array.proofs.Halving.{double, halves_inside, inside_halves, OverPlaces, over_places}
+use Rattle.pq_array.proofs.Descent.{right_child, right_inside}
 use Rattle.pq_array.proofs.Replacing.{rising_tail}
 
 -- only one number of a list's items have a property

@@ -26,5 +26,7 @@ pub record Counts (words live : List ℕ) : Type 0 where
 -- each word on the way from the leaf of this place to the root is one less, and no other word changed
 pub record IsLowered (width place : ℕ) (old new : List ℕ) : Type 0 where
   pub size : length new ≡ length old
-  pub on_the_way : (node : ℕ) → 1 ≤ node → HalvesTo (width + place) node → slice_index new node + 1 ≡ slice_index old node
-  pub elsewhere : (node : ℕ) → (1 ≤ node → HalvesTo (width + place) node → ⊥) → slice_index new node ≡ slice_index old node
+  pub on_the_way : (node : ℕ) → 1 ≤ node → HalvesTo (width + place) node →
+      slice_index new node + 1 ≡ slice_index old node
+  pub elsewhere : (node : ℕ) → (1 ≤ node → HalvesTo (width + place) node → ⊥) →
+      slice_index new node ≡ slice_index old node

@@ -97,7 +97,8 @@ impl GateArray {
         ensures none { IsNone result ↔ (length (live self.now) ≤ number) }
         ensures live { IfSome result (IsLive self.now) }
         ensures number { IfSome result (λ place. rank self.now place ≡ number) }
-        ensures gate { IfSome result (λ place. slice_index_or self.now place None ≡ slice_get (live self.now) number) }
+        ensures gate { IfSome result (λ place.
+            slice_index_or self.now place None ≡ slice_get (live self.now) number) }
     {
         if number >= self.live() {
             return None;
@@ -123,7 +124,8 @@ impl GateArray {
         ensures none { IsNone result ↔ ((later : ℕ) → place ≤ later → IsLive self.now later → ⊥) }
         ensures live { IfSome result (IsLive self.now) }
         ensures after { IfSome result (λ next. place ≤ next) }
-        ensures least { IfSome result (λ next. (later : ℕ) → place ≤ later → IsLive self.now later → next ≤ later) }
+        ensures least { IfSome result (λ next. (later : ℕ) →
+            place ≤ later → IsLive self.now later → next ≤ later) }
     {
         if place < self.cells() {
             self.select(self.rank(place))

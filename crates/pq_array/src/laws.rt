@@ -7,8 +7,10 @@ ghost use Rattle.pq_array.specs.Counts.{Counts};
 /// number of a live place's gate among them.
 pub fn rank_laws()
     ensures keeps { (cells : List (Option Gate)) (p q : ℕ) → p ≤ q → rank cells p ≤ rank cells q }
-    ensures rises { (cells : List (Option Gate)) (p q : ℕ) → IsLive cells p → p < q → rank cells p < rank cells q }
-    ensures end { (cells : List (Option Gate)) (p : ℕ) → length cells ≤ p → rank cells p ≡ length (live cells) }
+    ensures rises { (cells : List (Option Gate)) (p q : ℕ) → IsLive cells p → p < q →
+        rank cells p < rank cells q }
+    ensures end { (cells : List (Option Gate)) (p : ℕ) → length cells ≤ p →
+        rank cells p ≡ length (live cells) }
     ensures gate { (cells : List (Option Gate)) (p : ℕ) → IsLive cells p →
         slice_get (live cells) (rank cells p) ≡ slice_index_or cells p None }
 {}
@@ -25,12 +27,15 @@ pub fn run_law()
 /// where its place is live, and else 0; the word of a node above the leaves is the sum of its
 /// children's.
 pub fn tree_laws()
-    ensures only { (words other places : List ℕ) → Counts words places → Counts other places → length words ≡ length other →
+    ensures only { (words other places : List ℕ) → Counts words places → Counts other places →
+        length words ≡ length other →
         (node : ℕ) → 1 ≤ node → slice_index words node ≡ slice_index other node }
     ensures live_leaf { (words places : List ℕ) → Counts words places →
-        (width place : ℕ) → length words ≡ 2 * width → place < width → Contains places place → slice_index words (width + place) ≡ 1 }
+        (width place : ℕ) → length words ≡ 2 * width → place < width →
+        Contains places place → slice_index words (width + place) ≡ 1 }
     ensures other_leaf { (words places : List ℕ) → Counts words places →
-        (width place : ℕ) → length words ≡ 2 * width → place < width → (Contains places place → ⊥) → slice_index words (width + place) ≡ 0 }
+        (width place : ℕ) → length words ≡ 2 * width → place < width →
+        (Contains places place → ⊥) → slice_index words (width + place) ≡ 0 }
     ensures sum { (words places : List ℕ) → Counts words places →
         (node : ℕ) → 1 ≤ node → 2 * node + 1 < length words →
         slice_index words node ≡ slice_index words (2 * node) + slice_index words (2 * node + 1) }

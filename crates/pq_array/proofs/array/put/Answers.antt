@@ -1,5 +1,5 @@
 use Rattle.std.specs.Slice.{IsItemAt}
-use Rattle.std.proofs.Common.{◌≡◌, ◌+◌, ◌<◌, ℕ, suc, Option, Some, None, List, [], length, drop, set, get_or, slice_get, refl, arith, ap, sym, ◌∙◌, Bor}
+use Rattle.std.proofs.Common.{◌≡◌, ◌+◌, ℕ, suc, Option, Some, None, List, [], length, drop, slice_get, refl, arith, sym, ◌∙◌, Bor}
 use Rattle.std.specs.Option.{option_copied}
 use Rattle.std.proofs.lemmas.List.{drop_all}
 use Rattle.std.proofs.lemmas.Option.{slice_get_past, slice_get_read}

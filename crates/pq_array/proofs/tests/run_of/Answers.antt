@@ -1,6 +1,6 @@
-use Rattle.std.proofs.Common.{◌≡◌, ◌+◌, length, arith, sym, ◌∙◌}
+use Rattle.std.proofs.Common.{◌≡◌, ◌+◌, length, arith}
 use Rattle.pq_array.specs.Cells.{rank, IsLive}
-use Rattle.pq_array.proofs.Replacing.{RunAt, run_push, run_from_ranks}
+use Rattle.pq_array.proofs.Replacing.{run_push, run_from_ranks}
 use Rattle.pq_array.proofs.tests.run_of.Goals as goal
 
 pub loop-number-init : goal.loop-number-init

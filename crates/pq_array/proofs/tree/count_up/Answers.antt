@@ -1,4 +1,4 @@
-use Rattle.std.proofs.Common.{◌≡◌, ◌+◌, ◌-◌, ◌*◌, ◌/◌, ◌<◌, ◌≤◌, ◌≢◌, ℕ, suc, List, length, set, get_or, arith, refl, sym, ◌∙◌, get_or-set_other}
+use Rattle.std.proofs.Common.{◌≡◌, ◌+◌, ◌-◌, ◌*◌, ◌/◌, ◌≤◌, ◌≢◌, suc, length, get_or, arith, ◌∙◌, get_or-set_other}
 use Rattle.pq_array.proofs.CountUp.{SpansFrom, counts_more, sum_counts, sum_fits, leaf_counts, Spans-from_first}
 use Rattle.pq_array.proofs.Spans.{Counts-from_Spans}
 use Rattle.pq_array.proofs.tree.count_up.Goals as goal

@@ -1,4 +1,4 @@
-use Rattle.std.proofs.Common.{◌≡◌, ◌+◌, ◌/◌, ◌<◌, ◌≤◌, length, get_or, arith}
+use Rattle.std.proofs.Common.{◌+◌, ◌/◌, ◌<◌, length, arith}
 use Rattle.pq_array.proofs.Climb.{climbs, climbs_on, climbed, climb_inside, climb_halves, climb_word}
 use Rattle.pq_array.proofs.tree.lower.Goals as goal
 

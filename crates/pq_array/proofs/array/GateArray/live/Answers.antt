@@ -1,4 +1,4 @@
-use Rattle.std.proofs.Common.{◌<◌, length, arith, ◌∙◌}
+use Rattle.std.proofs.Common.{◌<◌, length, ◌∙◌}
 use Rattle.std.proofs.lemmas.List.{get_or_read}
 use Rattle.pq_array.proofs.Descent.{root_counts, root_inside}
 use Rattle.pq_array.proofs.array.GateArray.live.Goals as goal

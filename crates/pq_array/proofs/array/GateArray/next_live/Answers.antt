@@ -1,6 +1,5 @@
-use Rattle.std.proofs.Common.{◌≡◌, ◌≤◌, ℕ, IfSome}
+use Rattle.std.proofs.Common.{IfSome}
 use Rattle.std.proofs.lemmas.Option.{IfSome_then}
-use Rattle.pq_array.specs.Cells.{IsLive, rank}
 use Rattle.pq_array.proofs.Descent.{IsNext, next_by_number, none_by_number}
 use Rattle.pq_array.proofs.array.GateArray.next_live.Goals as goal
 

@@ -1,6 +1,6 @@
-use Rattle.std.proofs.Common.{◌≡◌, ◌+◌, ◌*◌, ◌/◌, ◌<◌, ◌≤◌, ℕ, length, get_or, arith, rules, ap, sym, ◌∙◌, Fits, w64}
+use Rattle.std.proofs.Common.{◌≡◌, ◌+◌, ◌*◌, ◌/◌, ◌<◌, ◌≤◌, ℕ, length, get_or, arith, ap, sym, ◌∙◌}
 use Rattle.std.proofs.lemmas.List.{get_or_read}
-use Rattle.pq_array.proofs.Descent.{GoesDown, goes_down, goes_left, goes_right, gone_down, children_inside, counted_fits, root_counts, root_inside, words_pair, rank_past}
+use Rattle.pq_array.proofs.Descent.{goes_down, goes_left, goes_right, gone_down, children_inside, counted_fits, words_pair, rank_past}
 use Rattle.pq_array.proofs.array.GateArray.rank.Goals as goal
 use Rattle.pq_array.proofs.array.GateArray.rank.Goals.{then-offset-half, else-offset-half}
 

@@ -1,10 +1,7 @@
-use Rattle.std.proofs.Common.{◌≡◌, ◌+◌, ◌-◌, ◌/◌, ◌<◌, ◌≤◌, ◌++◌, ℕ, Option, List, length, take, drop, get_or, refl, arith, ap, sym, ◌∙◌}
+use Rattle.std.proofs.Common.{◌≡◌, ◌+◌, ◌++◌, ℕ, Option, List, length, take, drop, get_or, refl, ap, sym, ◌∙◌}
 use Rattle.pq_gate.specs.declared.gate.Gate.{Gate}
-use Rattle.pq_array.specs.Cells.{live, rank, spliced, IsLive, IsLiveRun, Replaces}
-use Rattle.pq_array.specs.Counts.{HalvesTo, IsLowered}
-use Rattle.pq_array.specs.Tree.{IsTreeOf}
-use Rattle.pq_array.proofs.Ranks.{live_inside}
-use Rattle.pq_array.proofs.Lowering.{Lowers, lowers, lowers_can, lowers_more, lowers_all, run_rest, written_over, tree_replaced, replaced_is, live_replaced}
+use Rattle.pq_array.specs.Cells.{rank, IsLiveRun, Replaces}
+use Rattle.pq_array.proofs.Lowering.{lowers, lowers_can, lowers_more, lowers_all, run_rest, written_over, tree_replaced, replaced_is, live_replaced}
 use Rattle.pq_array.proofs.Replacing.{run_at}
 use Rattle.pq_array.proofs.array.GateArray.replace.Goals as goal
 

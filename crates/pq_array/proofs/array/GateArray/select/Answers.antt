@@ -1,6 +1,6 @@
-use Rattle.std.proofs.Common.{◌≡◌, ◌*◌, ◌/◌, ◌<◌, ℕ, length, get_or, arith, ap, sym, ◌∙◌}
+use Rattle.std.proofs.Common.{◌≡◌, ◌*◌, ◌/◌, ◌<◌, ℕ, length, get_or, arith, ap, ◌∙◌}
 use Rattle.std.proofs.lemmas.List.{get_or_read}
-use Rattle.pq_array.proofs.Descent.{seeks, seeks_left, seeks_right, sought, numbered_gate, children_below, words_pair}
+use Rattle.pq_array.proofs.Descent.{seeks, seeks_left, seeks_right, sought, numbered_gate, words_pair}
 use Rattle.pq_array.proofs.array.GateArray.select.Goals as goal
 
 pub loop-node-init : goal.loop-node-init
