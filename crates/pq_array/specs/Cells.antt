@@ -34,8 +34,10 @@ pub record IsLiveRun {A : Type 0} (cells : List (Option A)) (places : List ℕ) 
 -- the first of the places take the output in order, the others become tombstones, and all else stays
 pub record Replaces {A : Type 0} (old new : List (Option A)) (places : List ℕ) (output : List A) : Type 0 where
   pub size : length new ≡ length old
-  pub listed : (i : ℕ) → i < length places → slice_index_or new (slice_index places i) None ≡ slice_get output i
-  pub others : (place : ℕ) → (Contains places place → ⊥) → slice_index_or new place None ≡ slice_index_or old place None
+  pub listed : (i : ℕ) → i < length places →
+      slice_index_or new (slice_index places i) None ≡ slice_get output i
+  pub others : (place : ℕ) → (Contains places place → ⊥) →
+      slice_index_or new place None ≡ slice_index_or old place None
 
 -- the list with this part in place of its items from the number `first` up to the number `end`
 abbrev pub spliced : {A : Type 0} → List A → ℕ → ℕ → List A → List A

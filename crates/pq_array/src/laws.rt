@@ -1,6 +1,6 @@
 ghost use Rattle.std.specs.Prelude.{◌≡◌, ℕ, ◌+◌, ◌*◌, ◌<◌, ◌≤◌, Option, None, List, length, slice_index, slice_index_or, slice_get, Contains};
 ghost use Rattle.pq_gate.specs.declared.gate.Gate.{Gate};
-ghost use Rattle.pq_array.specs.Cells.{live, rank, IsLive, IsLiveRun};
+ghost use Rattle.pq_array.specs.Cells.{live, rank, IsLive, IsLiveRun, Replaces};
 ghost use Rattle.pq_array.specs.Counts.{Counts};
 
 /// The rank doesn't fall, rises behind each live place, ends at the number of live gates, and is the
@@ -21,6 +21,12 @@ pub fn run_law()
         ((i : ℕ) → i < length places → IsLive cells (slice_index places i)) →
         ((i : ℕ) → i < length places → rank cells (slice_index places i) ≡ first + i) →
         IsLiveRun cells places }
+{}
+
+/// Only one list of cells comes of a replacement.
+pub fn replacement_law()
+    ensures { (old new other : List (Option Gate)) (places : List ℕ) (output : List Gate) →
+        Replaces old new places output → Replaces old other places output → new ≡ other }
 {}
 
 /// The words of a tree over live places: one list of a length, but for word 0. A leaf's word is 1

@@ -9,7 +9,7 @@ mod tests;
 mod tree;
 
 pub use array::GateArray;
-pub use laws::{rank_laws, run_law, tree_laws};
+pub use laws::{rank_laws, replacement_law, run_law, tree_laws};
 use pq_list::RoomList;
 
 /// A list of words, with the room that was asked for.
