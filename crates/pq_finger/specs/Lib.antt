@@ -1,0 +1,5 @@
+pub mod Gaps
+pub mod Selecting
+pub mod Settled
+pub mod Settling
+pub use Rattle.pq_list.specs.Roomed
