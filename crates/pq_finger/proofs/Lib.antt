@@ -1,1 +1,5 @@
 pub mod Ascending
+pub mod Rising
+pub mod Putting
+pub mod Boundaries
+pub mod Halfway

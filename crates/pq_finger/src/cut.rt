@@ -1,4 +1,4 @@
-ghost use Rattle.std.specs.Prelude.{◌≡◌, ◌↔◌, ◌||◌, ◌==◌, IsTrue};
+ghost use Rattle.std.specs.Prelude.{◌≡◌, ◌↔◌, ◌&&◌, ◌||◌, not, ◌==◌, IsTrue};
 ghost use Rattle.pq_finger.specs.Gaps.{is_inside};
 ghost use Rattle.pq_finger.specs.Settling.{IsBefore};
 
@@ -26,6 +26,20 @@ impl Cut {
         ensures { result ≡ ((index == self.now.finger) || is_inside self.now.improved self.now.from self.now.to place) }
     {
         index == self.finger || self.improved && self.from < place && place < self.to
+    }
+
+    /// Whether the place where the segment begins becomes a finger.
+    pub fn keeps_from(&self) -> bool
+        ensures { result ≡ (self.now.improved && not self.now.at_start) }
+    {
+        self.improved && !self.at_start
+    }
+
+    /// Whether the place where the segment ends becomes a finger.
+    pub fn keeps_to(&self) -> bool
+        ensures { result ≡ (self.now.improved && not self.now.at_end) }
+    {
+        self.improved && !self.at_end
     }
 
     /// Whether the cut's finger and its segment come before the finger of this index at this place.

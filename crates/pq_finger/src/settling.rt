@@ -1,4 +1,4 @@
-ghost use Rattle.std.specs.Prelude.{◌≡◌, ◌+◌, ◌*◌, ◌<◌, ◌≤◌, if◌then◌else◌, [], ◌++◌, All, AllPairs, length, slice_index_or, vec_len, vec_capacity};
+ghost use Rattle.std.specs.Prelude.{◌≡◌, ◌+◌, ◌*◌, ◌<◌, ◌≤◌, if◌then◌else◌, [], ◌++◌, All, AllPairs, IsTrue, length, slice_index_or, vec_len, vec_capacity};
 ghost use Rattle.std.specs.List.{flat_map};
 ghost use Rattle.std.specs.List.Sorted.{IsStrictlyIncreasing};
 ghost use Rattle.pq_finger.specs.Gaps.{ascending, with_number};
@@ -87,13 +87,21 @@ fn put_boundaries(list: &mut Vec<u64>, cut: &Cut)
     ensures len { vec_len list.new ≤ vec_len list.old + 2 }
     ensures capacity { vec_capacity list.new ≡ vec_capacity list.old }
 {
-    if cut.improved {
-        if !cut.at_start {
-            put(list, cut.from);
-        }
-        if !cut.at_end {
-            put(list, cut.to);
-        }
+    put_if(list, cut.from, cut.keeps_from());
+    put_if(list, cut.to, cut.keeps_to());
+}
+
+/// Puts a place where it is wanted.
+fn put_if(list: &mut Vec<u64>, place: u64, wanted: bool)
+    requires room { vec_len list.old < vec_capacity list.old }
+    requires rising { IsStrictlyIncreasing list.old.items }
+    requires up_to { IsTrue wanted → All (λ other. other ≤ place) list.old.items }
+    ensures put { list.new.items ≡ (if wanted then with_number place list.old.items else list.old.items) }
+    ensures len { vec_len list.new ≤ vec_len list.old + 1 }
+    ensures capacity { vec_capacity list.new ≡ vec_capacity list.old }
+{
+    if wanted {
+        put(list, place);
     }
 }
 
