@@ -3,3 +3,7 @@ pub mod Rising
 pub mod Putting
 pub mod Boundaries
 pub mod Halfway
+pub mod Whole
+pub mod Moving
+pub mod Multiples
+pub mod Choosing
