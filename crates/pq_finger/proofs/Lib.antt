@@ -7,3 +7,5 @@ pub mod Whole
 pub mod Moving
 pub mod Multiples
 pub mod Choosing
+pub mod Selections
+pub mod Exactly

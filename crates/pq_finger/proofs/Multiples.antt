@@ -58,3 +58,23 @@ quotient_above live w k some lt = by (cases_lt k (live / w))
 pub first_is : (live w n : ℕ) → n ≡ div_ceil live w → map (λ k. k * w) (range_with_len 0 n) ≡ first_fingers live w
 unfolding first_fingers
 first_is live w n is = ap (λ (m : ℕ). map (λ k. k * w) (range_with_len 0 m)) is
+
+-- a gap is a first finger exactly where it is a multiple that is less than the number of live gates
+pub first_rises : (live w : ℕ) → 0 < w → IsStrictlyIncreasing (first_fingers live w)
+unfolding first_fingers
+first_rises live w some = multiples_rise w (div_ceil live w) some
+
+pub first_contained : (live w gap : ℕ) → 0 < w → Contains (first_fingers live w) gap → (gap < live) × ((k : ℕ) × (gap ≡ k * w))
+unfolding first_fingers
+first_contained live w gap some found =
+    let count = length-map-range_with_len (λ j. j * w) 0 (div_ceil live w) in
+    let in' : found.0 < div_ceil live w = omega (arith, found.1) in
+    let is : gap ≡ found.0 * w = sym found.2 ∙ multiple_at w (div_ceil live w) found.0 gap in' in
+    (omega (arith, is, below_quotient live w found.0 some in'), (found.0, is))
+
+pub first_contains : (live w gap : ℕ) → 0 < w → (gap < live) × ((k : ℕ) × (gap ≡ k * w)) → Contains (first_fingers live w) gap
+unfolding first_fingers
+first_contains live w gap some multiple =
+    let count = length-map-range_with_len (λ j. j * w) 0 (div_ceil live w) in
+    let in' : multiple.1.0 < div_ceil live w = quotient_above live w multiple.1.0 some (omega (arith, multiple.0, multiple.1.1)) in
+    (multiple.1.0, omega arith, multiple_at w (div_ceil live w) multiple.1.0 gap in' ∙ sym multiple.1.1)

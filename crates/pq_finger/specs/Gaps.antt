@@ -1,4 +1,4 @@
-use Rattle.std.specs.Prelude.{◌≡◌, ℕ, ◌+◌, ◌-◌, ◌*◌, ◌<◌, ◌≤◌, min, Bool, ◌&&◌, ◌||◌, not, nat_lt, nat_le, ◌==◌, if◌then◌else◌, List, [], ◌∷◌, ◌++◌, map, filter, All}
+use Rattle.std.specs.Prelude.{◌≡◌, ◌≢◌, ◌⊎◌, ℕ, ◌+◌, ◌-◌, ◌*◌, ◌<◌, ◌≤◌, min, Bool, ◌&&◌, ◌||◌, not, nat_lt, nat_le, ◌==◌, if◌then◌else◌, List, [], ◌∷◌, ◌++◌, map, filter, All, IsTrue}
 use Rattle.std.specs.Int.{div_ceil}
 use Rattle.std.specs.List.{range_with_len, list_any, flat_map}
 
@@ -70,6 +70,15 @@ pub record GapCut : Type 0 where
 -- the gap was selected, or stands strictly inside the segment, which was improved
 abbrev pub is_dropped_gap : ℕ → GapCut → Bool
 is_dropped_gap gap cut = (gap == cut.finger) || is_inside cut.improved cut.from cut.to gap
+
+-- the same as a fact
+abbrev pub DropsGap : ℕ → GapCut → Type 0
+DropsGap gap cut = (gap ≡ cut.finger) ⊎ (IsTrue cut.improved × (cut.from < gap) × (gap < cut.to))
+
+-- the gap is a boundary of the segment, which was improved, and neither the start nor the end of the list
+abbrev pub MakesGap : ℕ → ℕ → GapCut → Type 0
+MakesGap live gap cut =
+    IsTrue cut.improved × (((gap ≡ cut.from) × (cut.from ≢ 0)) ⊎ ((gap ≡ cut.to) × (cut.to ≢ live)))
 
 -- the gaps that become fingers where the old list had this many live gates
 abbrev pub new_gaps : ℕ → GapCut → List ℕ

@@ -1,4 +1,5 @@
 pub mod Gaps
+pub mod Ranks
 pub mod Selecting
 pub mod Settled
 pub mod Settling

@@ -1,4 +1,4 @@
-use Rattle.std.specs.Prelude.{ℕ, ◌+◌, ◌<◌, ◌≤◌, Bool, ◌||◌, not, ◌==◌, List, ◌++◌, length, filter, slice_index, All, AllPairs}
+use Rattle.std.specs.Prelude.{◌≡◌, ◌⊎◌, ℕ, ◌+◌, ◌<◌, ◌≤◌, Bool, false, ◌||◌, not, ◌==◌, List, ◌++◌, length, filter, slice_index, All, AllPairs, IsTrue}
 use Rattle.std.specs.List.{list_any, flat_map}
 use Rattle.pq_finger.specs.declared.cut.Cut.{Cut}
 use Rattle.pq_finger.specs.Gaps.{ascending, is_inside, inner_edges}
@@ -7,6 +7,16 @@ use Rattle.pq_finger.specs.Gaps.{ascending, is_inside, inner_edges}
 abbrev pub is_dropped : List ℕ → ℕ → Cut → Bool
 is_dropped places place cut =
     (place == slice_index places cut.finger) || is_inside cut.improved cut.from cut.to place
+
+-- the same as a fact
+abbrev pub DropsPlace : List ℕ → ℕ → Cut → Type 0
+DropsPlace places place cut =
+    (place ≡ slice_index places cut.finger) ⊎ (IsTrue cut.improved × (cut.from < place) × (place < cut.to))
+
+-- the place is a boundary of the segment, which was improved, and neither the start nor the end
+abbrev pub MakesPlace : ℕ → Cut → Type 0
+MakesPlace place cut =
+    IsTrue cut.improved × (((place ≡ cut.from) × (cut.at_start ≡ false)) ⊎ ((place ≡ cut.to) × (cut.at_end ≡ false)))
 
 -- the places that become fingers
 abbrev pub new_places : Cut → List ℕ
