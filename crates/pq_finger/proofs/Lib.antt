@@ -9,3 +9,4 @@ pub mod Multiples
 pub mod Choosing
 pub mod Selections
 pub mod Exactly
+pub mod RankLaws

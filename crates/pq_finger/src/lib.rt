@@ -16,3 +16,6 @@ pub use laws::{
     settled_places_are_kept, settled_places_have_the_kept_gaps,
 };
 pub use pq_io::PlaceList;
+
+#[cfg(test)]
+mod tests;
