@@ -1,6 +1,5 @@
-use Rattle.std.proofs.Common.{◌≡◌, ℕ, suc, ◌+◌, ◌<◌, ◌≤◌, Bool, true, false, cond, ◌||◌, eqb, ltb, List, [], ◌∷◌, ◌++◌, length, get_or, refl, sym, ap, ◌∙◌, arith, inl, inr, ◌⊎◌}
-use Rattle.std.proofs.lemmas.Bool.{lt-ltb, le-ltb, eq-eqb, ne_eqb, eqb-true, cases_order, false≢true, cases_Bool, or_cases}
-use Rattle.std.proofs.lemmas.Bool.Decides.{nat_tests}
+use Rattle.std.proofs.Common.{◌≡◌, ℕ, suc, ◌<◌, ◌≤◌, Bool, true, false, ◌||◌, eqb, ltb, List, [], ◌∷◌, ◌++◌, refl, sym, ap, ◌∙◌, arith, inl, inr, ◌⊎◌}
+use Rattle.std.proofs.lemmas.Bool.{lt-ltb, le-ltb, eq-eqb, ne_eqb, cases_order, false≢true}
 use Rattle.pq_finger.specs.Gaps.{with_number, ascending}
 
 -- whether the list has this number
@@ -108,6 +107,7 @@ same_rising m n (x ∷ xs) (y ∷ ys) rx ry same =
         let differ : eqb z x ≡ false = ne_eqb z x (λ e. omega arith) in
         let other : eqb z y ≡ false = ne_eqb z y (λ e. omega arith) in
         rw (differ, other) at (same z)
+
     by : (((z : ℕ) → member z xs ≡ member z ys) → xs ≡ ys) → (x ≡ y) ⊎ ((x < y) ⊎ (y < x)) → x ∷ xs ≡ y ∷ ys
     by more (inl here) = let rest : xs ≡ ys = more (λ z. later here z (cases_order z x)) in cc
     by more (inr (inl below)) = absurd (false≢true (sym (member_below x y (y ∷ ys) below (omega arith, ry.1)) ∙ (sym (same x) ∙ member_here x xs)))

@@ -1,8 +1,8 @@
-use Rattle.std.proofs.Common.{◌≡◌, ℕ, zero, suc, ◌+◌, ◌-◌, ◌*◌, ◌<◌, ◌≤◌, Bool, true, false, cond, ◌||◌, ◌&&◌, not, eqb, ltb, List, [], ◌∷◌, ◌++◌, length, get_or, refl, sym, ap, subst, ◌∙◌, arith, inl, inr, ◌⊎◌}
+use Rattle.std.proofs.Common.{◌≡◌, ℕ, ◌<◌, Bool, true, false, cond, ◌||◌, ◌&&◌, not, eqb, ltb, List, [], ◌∷◌, ◌++◌, refl, sym, ap, ◌∙◌, inl, inr, ◌⊎◌}
 use Rattle.std.specs.Prelude.{◌↔◌, ◌≢◌}
 use Rattle.std.specs.List.{Any, Contains, flat_map, filter, list_any, slice_index}
 use Rattle.std.specs.List.Sorted.{IsStrictlyIncreasing}
-use Rattle.std.proofs.lemmas.Bool.{cases_Bool, eqb-true, eqb-false, eq-eqb, ne_eqb, or_cases, or_left, or_right, and_parts, and_from, and_left, ltb-true, lt-ltb, false≢true, not-true, not_from_false, false_from_ne_true}
+use Rattle.std.proofs.lemmas.Bool.{cases_Bool, eqb-true, eqb-false, eq-eqb, ne_eqb, or_cases, or_left, or_right, and_parts, and_from, ltb-true, lt-ltb, false≢true, not-true, not_from_false, false_from_ne_true}
 use Rattle.std.proofs.lemmas.List.Folds.{Any-from_list_any, list_any-from_Any}
 use Rattle.pq_finger.specs.declared.cut.Cut.{Cut}
 use Rattle.pq_finger.specs.Gaps.{ascending, kept_gaps, new_gaps, is_dropped_gap, is_inside, inner_edges, GapCut, DropsGap, MakesGap}
@@ -58,17 +58,23 @@ kept_exactly {C} t f P Q z xs cs drops makes = (there, back)
   where
     whole : List ℕ
     whole = ascending (filter (λ x. not (list_any (t x) cs)) xs ++ flat_map f cs)
+
     is : member z whole ≡ ((member z xs && not (list_any (t z) cs)) || list_any (λ c. member z (f c)) cs)
     is = member_kept t f z xs cs
+
     left : ((member z xs && not (list_any (t z) cs)) ≡ true) ⊎ (list_any (λ c. member z (f c)) cs ≡ true) → (Contains xs z × (Any P cs → ⊥)) ⊎ Any Q cs
     left (inl stays) =
         let parts = and_parts (member z xs) (not (list_any (t z) cs)) stays in
-        inl (contains_from_member z xs parts.0,
-        (λ some. false≢true (sym (not-true (list_any (t z) cs) parts.1) ∙ list_any-from_Any (t z) cs (any_by P (λ c. t z c ≡ true) cs (λ c p. (drops c).1 p) some))))
+        inl (
+          contains_from_member z xs parts.0,
+          (λ some. false≢true (sym (not-true (list_any (t z) cs) parts.1) ∙ list_any-from_Any (t z) cs (any_by P (λ c. t z c ≡ true) cs (λ c p. (drops c).1 p) some))),
+        )
     left (inr new) =
         inr (any_by (λ c. member z (f c) ≡ true) Q cs (λ c m. (makes c).0 m) (Any-from_list_any (λ c. member z (f c)) cs new))
+
     there : Contains whole z → (Contains xs z × (Any P cs → ⊥)) ⊎ Any Q cs
     there found = left (or_cases (member z xs && not (list_any (t z) cs)) (list_any (λ c. member z (f c)) cs) (sym is ∙ member_from_contains z whole found))
+
     right : (Contains xs z × (Any P cs → ⊥)) ⊎ Any Q cs → ((member z xs && not (list_any (t z) cs)) || list_any (λ c. member z (f c)) cs) ≡ true
     right (inl stays) =
         or_left (member z xs && not (list_any (t z) cs)) (list_any (λ c. member z (f c)) cs)
@@ -78,6 +84,7 @@ kept_exactly {C} t f P Q z xs cs drops makes = (there, back)
     right (inr new) =
         or_right (member z xs && not (list_any (t z) cs)) (list_any (λ c. member z (f c)) cs)
         (list_any-from_Any (λ c. member z (f c)) cs (any_by Q (λ c. member z (f c) ≡ true) cs (λ c q. (makes c).1 q) new))
+
     back : (Contains xs z × (Any P cs → ⊥)) ⊎ Any Q cs → Contains whole z
     back facts = contains_from_member z whole (is ∙ right facts)
 
@@ -91,11 +98,14 @@ drops_exactly improved finger from to z = (there, back)
         let parts = and_parts improved (ltb from z && ltb z to) is in
         let sides = and_parts (ltb from z) (ltb z to) parts.1 in
         (parts.0, ltb-true from z sides.0, ltb-true z to sides.1)
+
     which : (eqb z finger ≡ true) ⊎ (is_inside improved from to z ≡ true) → (z ≡ finger) ⊎ ((improved ≡ true) × (from < z) × (z < to))
     which (inl own) = inl (eqb-true z finger own)
     which (inr is) = inr (inside is)
+
     there : (eqb z finger || is_inside improved from to z) ≡ true → (z ≡ finger) ⊎ ((improved ≡ true) × (from < z) × (z < to))
     there is = which (or_cases (eqb z finger) (is_inside improved from to z) is)
+
     back : (z ≡ finger) ⊎ ((improved ≡ true) × (from < z) × (z < to)) → (eqb z finger || is_inside improved from to z) ≡ true
     back (inl same) = or_left (eqb z finger) (is_inside improved from to z) (eq-eqb z finger same)
     back (inr in') =
@@ -119,8 +129,10 @@ edges_exactly improved at_start at_end from to z = (there, back)
   where
     left : List ℕ
     left = cond (improved && not at_start) (from ∷ []) []
+
     right : List ℕ
     right = cond (improved && not at_end) (to ∷ []) []
+
     which : (member z left ≡ true) ⊎ (member z right ≡ true) → (improved ≡ true) × (((z ≡ from) × (at_start ≡ false)) ⊎ ((z ≡ to) × (at_end ≡ false)))
     which (inl is) =
         let at = (member_wanted (improved && not at_start) from z).0 is in
@@ -130,8 +142,10 @@ edges_exactly improved at_start at_end from to z = (there, back)
         let at = (member_wanted (improved && not at_end) to z).0 is in
         let parts = and_parts improved (not at_end) at.0 in
         (parts.0, inr (at.1, not-true at_end parts.1))
+
     there : member z (left ++ right) ≡ true → (improved ≡ true) × (((z ≡ from) × (at_start ≡ false)) ⊎ ((z ≡ to) × (at_end ≡ false)))
     there is = which (or_cases (member z left) (member z right) (sym (member-append z left right) ∙ is))
+
     one : improved ≡ true → ((z ≡ from) × (at_start ≡ false)) ⊎ ((z ≡ to) × (at_end ≡ false)) → (member z left || member z right) ≡ true
     one better (inl at) =
         or_left (member z left) (member z right)
@@ -139,6 +153,7 @@ edges_exactly improved at_start at_end from to z = (there, back)
     one better (inr at) =
         or_right (member z left) (member z right)
         ((member_wanted (improved && not at_end) to z).1 (and_from improved (not at_end) better (not_from_false at_end at.1), at.0))
+
     back : (improved ≡ true) × (((z ≡ from) × (at_start ≡ false)) ⊎ ((z ≡ to) × (at_end ≡ false))) → member z (left ++ right) ≡ true
     back edge = member-append z left right ∙ one edge.0 edge.1
 
@@ -162,16 +177,20 @@ makes_exactly live z cut = (there, back)
     edges : (member z (new_gaps live cut) ≡ true) ↔
         ((cut.improved ≡ true) × (((z ≡ cut.from) × (eqb cut.from 0 ≡ false)) ⊎ ((z ≡ cut.to) × (eqb cut.to live ≡ false))))
     edges = edges_exactly cut.improved (eqb cut.from 0) (eqb cut.to live) cut.from cut.to z
+
     which : ((z ≡ cut.from) × (eqb cut.from 0 ≡ false)) ⊎ ((z ≡ cut.to) × (eqb cut.to live ≡ false)) →
         ((z ≡ cut.from) × (cut.from ≢ 0)) ⊎ ((z ≡ cut.to) × (cut.to ≢ live))
     which (inl at) = inl (at.0, eqb-false cut.from 0 at.1)
     which (inr at) = inr (at.0, eqb-false cut.to live at.1)
+
     there : member z (new_gaps live cut) ≡ true → MakesGap live z cut
     there is = let edge = edges.0 is in (edge.0, which edge.1)
+
     turned : ((z ≡ cut.from) × (cut.from ≢ 0)) ⊎ ((z ≡ cut.to) × (cut.to ≢ live)) →
         ((z ≡ cut.from) × (eqb cut.from 0 ≡ false)) ⊎ ((z ≡ cut.to) × (eqb cut.to live ≡ false))
     turned (inl at) = inl (at.0, ne_eqb cut.from 0 at.1)
     turned (inr at) = inr (at.0, ne_eqb cut.to live at.1)
+
     back : MakesGap live z cut → member z (new_gaps live cut) ≡ true
     back edge = edges.1 (edge.0, turned edge.1)
 

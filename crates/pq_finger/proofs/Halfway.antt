@@ -1,18 +1,17 @@
-use Rattle.std.proofs.Common.{◌≡◌, ℕ, zero, suc, ◌+◌, ◌-◌, ◌*◌, ◌<◌, ◌≤◌, Bool, true, false, cond, ◌||◌, ◌&&◌, not, eqb, ltb, List, [], ◌∷◌, ◌++◌, length, take, get_or, refl, sym, ap, subst, ◌∙◌, arith, inl, inr, ◌⊎◌, append_assoc}
+use Rattle.std.proofs.Common.{◌≡◌, ℕ, ◌+◌, ◌<◌, ◌≤◌, Bool, true, false, cond, ◌||◌, ◌&&◌, not, eqb, ltb, List, [], ◌∷◌, ◌++◌, length, take, get_or, refl, sym, ap, subst, ◌∙◌, arith, inl, inr, ◌⊎◌}
 use Rattle.std.specs.List.Sorted.{IsStrictlyIncreasing}
-use Rattle.std.specs.List.{All, AllPairs, flat_map, filter, list_any, slice_index}
-use Rattle.std.proofs.lemmas.Bool.{cases_Bool, cases_order, cases_lt, cases_eq, eqb-true, eq-eqb, ne_eqb, or_cases, or_parts, or_left, or_right, or_from, and_left, and_right, and_parts, and_cases, le-ltb, lt-ltb, ltb-false, ltb-true, false≢true}
+use Rattle.std.specs.List.{All, flat_map, filter, list_any}
+use Rattle.std.proofs.lemmas.Bool.{cases_order, cases_lt, cases_eq, eqb-true, eq-eqb, ne_eqb, or_cases, or_parts, or_left, or_right, or_from, and_left, and_right, and_cases, le-ltb, lt-ltb, ltb-false, false≢true}
 use Rattle.std.proofs.lemmas.List.{append-nil, get_or_default}
 use Rattle.std.proofs.lemmas.List.Kept.{AllPairs-from_increasing}
-use Rattle.std.proofs.lemmas.List.Elements.{filter_more, All-nil}
+use Rattle.std.proofs.lemmas.List.Elements.{filter_more}
 use Rattle.std.proofs.lemmas.List.Folds.{list_any_none, list_any_at}
 use Rattle.pq_finger.specs.declared.cut.Cut.{Cut}
 use Rattle.pq_finger.specs.Gaps.{with_number, ascending, is_inside}
 use Rattle.pq_finger.specs.Settled.{is_dropped, new_places, AreInOrder}
-use Rattle.pq_finger.specs.Settling.{IsBefore, first_edge, settled_front, SettledUpTo, IsAtFinger}
+use Rattle.pq_finger.specs.Settling.{IsBefore, first_edge, SettledUpTo, IsAtFinger}
 use Rattle.pq_finger.proofs.Ascending.{member, Rises-with_number, Rises-ascending, member-with_number, member-append, member-ascending, same_rising}
 use Rattle.pq_finger.proofs.Rising.{all_member, All-from_member}
-use Rattle.pq_finger.proofs.Putting.{ascending-push, or_comm}
 use Rattle.pq_finger.proofs.Boundaries.{boundaries_more, reaches_to, ahead_next}
 
 -- the finger of this place stays
@@ -95,15 +94,22 @@ IsAtFinger-passes {places} {cuts} {list} {index} {behind} d list' order up in' s
   where
     is_at : (e : Cut) → list' ≡ ascending (list ++ new_places (get_or cuts behind e))
     is_at e = is ∙ ap (λ (cut : Cut). ascending (list ++ new_places cut)) (get_or_default cuts behind d e lt)
+
     below : (k : ℕ) → index ≤ k → k < length places → All (λ place. place ≤ get_or places k 0) (ascending (list ++ new_places (get_or cuts behind d)))
     below k low high i e inside =
-        omega (arith, reaches_to (get_or cuts behind d) list (not_turned places cuts order behind d lt) (so_far.ahead d lt) i e inside, before.1,
-        place_up_to places index k up low high)
+        omega (
+          arith,
+          reaches_to (get_or cuts behind d) list (not_turned places cuts order behind d lt) (so_far.ahead d lt) i e inside,
+          before.1,
+          place_up_to places index k up low high,
+        )
+
     here_left : (k : ℕ) (e : Cut) → index ≤ k → k < length places → IsBefore k (get_or places k 0) (get_or cuts behind e)
     here_left k e low high =
         let P : Cut → Type 0 = λ cut. IsBefore index (get_or places index 0) cut in
         let at : IsBefore index (get_or places index 0) (get_or cuts behind e) = subst P (get_or_default cuts behind d e lt) before in
         (omega (arith, at.0), omega (arith, at.1, place_up_to places index k up low high))
+
     left : (u k : ℕ) (e : Cut) → index ≤ k → k < length places → (u ≡ behind) ⊎ (u ≡ behind → ⊥) → u < behind + 1 →
         IsBefore k (get_or places k 0) (get_or cuts u e)
     left u k e low high (inl same) last =
@@ -145,11 +151,13 @@ SettledUpTo-drops {places} {cuts} {list} {index} {behind} d in' at lt drops = re
     by_place (inl own) = or_left _ _ (eq-eqb (get_or places index 0) (get_or places (get_or cuts behind d).finger 0)
         (ap (λ (n : ℕ). get_or places n 0) (eqb-true index (get_or cuts behind d).finger own)))
     by_place (inr inside) = or_right _ _ inside
+
     gone : stays places cuts (get_or places index 0) ≡ false
     gone =
         let any : list_any (is_dropped places (get_or places index 0)) cuts ≡ true =
         list_any_at (is_dropped places (get_or places index 0)) cuts behind d lt (by_place (or_cases _ _ drops)) in
         ap not any
+
     front : filter (stays places cuts) (take (index + 1) places) ≡ filter (stays places cuts) (take index places)
     front = filter_more (stays places cuts) places index 0 in' ∙
         (ap (λ (b : Bool). filter (stays places cuts) (take index places) ++ cond b (get_or places index 0 ∷ []) []) gone ∙ append-nil _)
@@ -171,6 +179,7 @@ up_to_edge cut place lt outside = by cut.improved refl
     front : (ltb cut.from place ≡ false) ⊎ (ltb place cut.to ≡ false) → place ≤ cut.from
     front (inl not_after) = ltb-false cut.from place not_after
     front (inr not_before) = absurd (false≢true (sym not_before ∙ lt-ltb place cut.to lt))
+
     by : (b : Bool) → cut.improved ≡ b → place ≤ first_edge cut
     by true is =
         let here : (ltb cut.from place && ltb place cut.to) ≡ false = rw is at outside in
@@ -205,6 +214,7 @@ none_drops {places} {cuts} {list} {index} {behind} d order up in' at next u e in
         at_side (inl is) = differ is
         at_side (inr (inl before)) = omega (arith, place_below places index cut.finger up before exists)
         at_side (inr (inr after)) = omega (arith, place_below places cut.finger index up after in')
+
     by : (u ≡ behind) ⊎ ((u < behind) ⊎ (behind < u)) → is_dropped places (get_or places index 0) (get_or cuts u e) ≡ false
     by (inl same) =
         let lt : behind < length cuts = omega arith in
@@ -246,9 +256,11 @@ SettledUpTo-puts {places} {cuts} {list} {index} {behind} d list' order up in' at
   where
     kept : stays places cuts (get_or places index 0) ≡ true
     kept = ap not (list_any_none (is_dropped places (get_or places index 0)) cuts (none_drops d order up in' at next))
+
     front : filter (stays places cuts) (take (index + 1) places) ≡ filter (stays places cuts) (take index places) ++ get_or places index 0 ∷ []
     front = filter_more (stays places cuts) places index 0 in' ∙
         ap (λ (b : Bool). filter (stays places cuts) (take index places) ++ cond b (get_or places index 0 ∷ []) []) kept
+
     up_to : (most : ℕ) → All (λ place. place ≤ most) list → get_or places index 0 ≤ most → All (λ place. place ≤ most) (with_number (get_or places index 0) list)
     up_to most old new =
         All-from_member (λ place. place ≤ most) (with_number (get_or places index 0) list)
@@ -257,6 +269,7 @@ SettledUpTo-puts {places} {cuts} {list} {index} {behind} d list' order up in' at
         by : (y : ℕ) → (eqb y (get_or places index 0) ≡ true) ⊎ (member y list ≡ true) → y ≤ most
         by y (inl same) = omega (arith, eqb-true y (get_or places index 0) same)
         by y (inr there) = all_member (λ z. z ≤ most) list old y there
+
     edge : (e : Cut) → behind < length cuts → get_or places index 0 ≤ first_edge (get_or cuts behind e)
     edge e lt =
         let P : Cut → Type 0 = λ cut. get_or places index 0 ≤ first_edge cut in

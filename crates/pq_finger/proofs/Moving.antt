@@ -1,10 +1,8 @@
-use Rattle.std.proofs.Common.{◌≡◌, ℕ, zero, suc, ◌+◌, ◌-◌, ◌<◌, ◌≤◌, Bool, true, false, cond, ◌||◌, eqb, ltb, List, [], ◌∷◌, ◌++◌, length, get_or, refl, sym, ap, subst, ◌∙◌, arith, inl, inr, ◌⊎◌}
-use Rattle.std.specs.List.{dedup, dedup_from, slice_index_or}
-use Rattle.std.specs.List.Sorted.{IsNonDecreasing, IsStrictlyIncreasing}
-use Rattle.std.specs.List.Retain.{IsFiltered, DiffersFromLast}
-use Rattle.std.proofs.lemmas.Bool.{cases_order, eq-eqb, ne_eqb, le-ltb, lt-ltb}
-use Rattle.std.proofs.lemmas.List.Filters.{dedup_is}
-use Rattle.pq_finger.specs.Gaps.{with_number, ascending}
+use Rattle.std.proofs.Common.{◌≡◌, ℕ, suc, ◌<◌, ◌≤◌, Bool, true, false, ◌||◌, eqb, List, [], ◌∷◌, length, get_or, refl, sym, ap, subst, ◌∙◌, arith, inl, inr, ◌⊎◌}
+use Rattle.std.specs.List.{dedup, dedup_from}
+use Rattle.std.specs.List.Sorted.{IsNonDecreasing}
+use Rattle.std.proofs.lemmas.Bool.{cases_order, eq-eqb, ne_eqb}
+use Rattle.pq_finger.specs.Gaps.{ascending}
 use Rattle.pq_finger.proofs.Ascending.{member, Rises, same_rising, Rises-ascending, member-ascending, or_again}
 
 -- numbers that don't fall, from the first on
@@ -47,6 +45,7 @@ member-dedup_from z x (y ∷ ys) =
     differs : (eqb y x ≡ false) → member z (dedup_from eqb y ys) ≡ (eqb z y || member z ys) →
         member z (dedup_from eqb x (y ∷ ys)) ≡ (eqb z x || (eqb z y || member z ys))
     differs differ next = rw differ (ap (λ (b : Bool). eqb z x || b) next)
+
     by : member z (dedup_from eqb x ys) ≡ (eqb z x || member z ys) → member z (dedup_from eqb y ys) ≡ (eqb z y || member z ys) →
         (x ≡ y) ⊎ ((x < y) ⊎ (y < x)) → member z (dedup_from eqb x (y ∷ ys)) ≡ (eqb z x || (eqb z y || member z ys))
     by again next (inl same) =

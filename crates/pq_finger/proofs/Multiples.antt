@@ -1,4 +1,4 @@
-use Rattle.std.proofs.Common.{◌≡◌, ℕ, zero, suc, ◌+◌, ◌-◌, ◌*◌, ◌/◌, ◌%◌, ◌<◌, ◌≤◌, min, List, [], ◌∷◌, ◌++◌, length, get_or, refl, sym, ap, subst, ◌∙◌, arith, inl, inr, ◌⊎◌, map}
+use Rattle.std.proofs.Common.{◌≡◌, ℕ, ◌+◌, ◌*◌, ◌/◌, ◌%◌, ◌<◌, ◌≤◌, get_or, sym, ap, ◌∙◌, arith, inl, inr, ◌⊎◌, map}
 use Rattle.std.specs.Int.{div_ceil}
 use Rattle.std.specs.List.{range_with_len, Contains}
 use Rattle.std.specs.List.Sorted.{IsStrictlyIncreasing}
@@ -28,6 +28,7 @@ below_quotient live w k some lt = by (cases_lt k (live / w))
   where
     whole : w * (live / w) + live % w ≡ live
     whole = omega arith
+
     by : (k < live / w) ⊎ (live / w ≤ k) → k * w < live
     by (inl less) = omega (arith, whole, more_times w k (live / w) some less, mul_comm w (live / w))
     by (inr last) =
@@ -40,16 +41,19 @@ quotient_above live w k some lt = by (cases_lt k (live / w))
   where
     whole : w * (live / w) + live % w ≡ live
     whole = omega arith
+
     past : live / w < k → k * w < live → ⊥
     past above lt =
         let step : w * (live / w + 1) ≤ w * k = mul-le-mul_left w (omega arith) in
         omega (arith, whole, step, mul_comm w k, mul_comm w (live / w))
+
     at_last : live / w ≤ k → (live / w < k) ⊎ (k ≤ live / w) → k < div_ceil live w
     at_last last (inl above) = absurd (past above lt)
     at_last last (inr most) =
         let same : k ≡ live / w = omega arith in
         let at : k * w ≡ live / w * w = ap (λ (n : ℕ). n * w) same in
         omega (arith, whole, at, mul_comm w (live / w))
+
     by : (k < live / w) ⊎ (live / w ≤ k) → k < div_ceil live w
     by (inl less) = omega arith
     by (inr last) = at_last last (cases_lt (live / w) k)

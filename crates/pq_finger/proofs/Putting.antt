@@ -1,13 +1,12 @@
-use Rattle.std.proofs.Common.{◌≡◌, ℕ, zero, suc, ◌+◌, ◌-◌, ◌*◌, ◌<◌, ◌≤◌, Bool, true, false, cond, ◌||◌, ◌&&◌, not, eqb, ltb, List, [], ◌∷◌, ◌++◌, length, get_or, refl, sym, ap, subst, ◌∙◌, arith, inl, inr, ◌⊎◌, append_assoc}
+use Rattle.std.proofs.Common.{◌≡◌, ℕ, ◌≤◌, Bool, true, false, cond, ◌||◌, ◌&&◌, not, eqb, List, [], ◌∷◌, ◌++◌, refl, sym, ap, ◌∙◌, arith, inl, inr, ◌⊎◌, append_assoc}
 use Rattle.std.specs.List.Sorted.{IsStrictlyIncreasing}
-use Rattle.std.specs.List.{All, flat_map}
+use Rattle.std.specs.List.{All}
 use Rattle.std.proofs.lemmas.Bool.{cases_Bool, eqb-true}
 use Rattle.std.proofs.lemmas.List.{append-nil}
 use Rattle.pq_finger.specs.declared.cut.Cut.{Cut}
-use Rattle.pq_finger.specs.Gaps.{with_number, ascending, inner_edges}
-use Rattle.pq_finger.specs.Settled.{new_places}
+use Rattle.pq_finger.specs.Gaps.{with_number, ascending}
 use Rattle.pq_finger.specs.Settling.{first_edge}
-use Rattle.pq_finger.proofs.Ascending.{member, Rises, Rises-with_number, member-with_number, member-append, member-ascending, ascending_same, ascending_rising, same_rising, Rises-ascending, or_assoc}
+use Rattle.pq_finger.proofs.Ascending.{member, Rises-with_number, member-with_number, member-append, member-ascending, ascending_same, ascending_rising, same_rising, Rises-ascending}
 use Rattle.pq_finger.proofs.Rising.{increasing_from_Rises, Rises-from_increasing, all_member, All-from_member}
 
 pub or_comm : (a b : Bool) → (a || b) ≡ (b || a)
@@ -27,6 +26,7 @@ ascending-push x xs =
     front : (b c : Bool) → ((b || false) || c) ≡ (b || c)
     front true c = refl
     front false c = refl
+
     end : (z : ℕ) → ((eqb z x || false) || member z xs) ≡ (eqb z x || member z (ascending xs))
     end z = front (eqb z x) (member z xs) ∙ ap (λ (b : Bool). eqb z x || b) (sym (member-ascending z xs))
 

@@ -1,18 +1,18 @@
 use Rattle.std.proofs.Common.{◌≡◌, ℕ, zero, suc, ◌+◌, ◌-◌, ◌*◌, ◌<◌, ◌≤◌, min, Bool, true, false, cond, ◌||◌, ◌&&◌, not, eqb, ltb, List, [], ◌∷◌, ◌++◌, length, get_or, map, refl, sym, ap, subst, ◌∙◌, arith, inl, inr, ◌⊎◌}
 use Rattle.std.specs.Prelude.{◌↔◌}
-use Rattle.std.specs.List.{All, AllPairs, AllZip, flat_map, filter, list_any, slice_index}
+use Rattle.std.specs.List.{All, AllZip, flat_map, filter, list_any, slice_index}
 use Rattle.std.specs.List.Sorted.{IsStrictlyIncreasing}
-use Rattle.std.proofs.lemmas.Bool.{cases_Bool, cases_order, cases_lt, eqb-true, eq-eqb, ne_eqb, le-ltb, lt-ltb, or_cases, and_parts, false≢true, false_from_ne_true}
-use Rattle.std.proofs.lemmas.List.{map-append, get_or-map, get_or_default, length-map}
+use Rattle.std.proofs.lemmas.Bool.{cases_Bool, cases_order, cases_lt, eqb-true, eq-eqb, ne_eqb, le-ltb, lt-ltb, or_cases, and_parts, false≢true}
+use Rattle.std.proofs.lemmas.List.{map-append, get_or-map, length-map}
 use Rattle.pq_finger.specs.declared.cut.Cut.{Cut}
-use Rattle.pq_finger.specs.Gaps.{with_number, ascending, kept_gaps, new_gaps, moved_gap, new_fingers, is_dropped_gap, is_inside, inner_edges, GapCut, segment_from, segment_to, selected}
+use Rattle.pq_finger.specs.Gaps.{with_number, ascending, kept_gaps, new_gaps, moved_gap, new_fingers, is_dropped_gap, GapCut, selected}
 use Rattle.pq_finger.specs.Settled.{settled, is_dropped, new_places, AreInOrder}
 use Rattle.pq_finger.specs.Ranks.{IsRank, IsAtPlaces, AreCutsOf}
 use Rattle.pq_finger.proofs.Ascending.{member, member-append, member-ascending, member_here}
-use Rattle.pq_finger.proofs.Rising.{all_member, All-from_member, member_at}
-use Rattle.pq_finger.proofs.Exactly.{member-filter, member-flat_map}
+use Rattle.pq_finger.proofs.Rising.{all_member}
+use Rattle.pq_finger.proofs.Exactly.{member-filter}
 use Rattle.pq_finger.proofs.Selections.{selected_far}
-use Rattle.pq_finger.proofs.Halfway.{place_below, place_up_to}
+use Rattle.pq_finger.proofs.Halfway.{place_up_to}
 
 -- places that stand are in the order of their ranks
 eqb_rank : {rank : ℕ → ℕ} {stands : ℕ → Bool} (x y : ℕ) → IsRank rank stands → stands x ≡ true → stands y ≡ true → eqb (rank x) (rank y) ≡ eqb x y
@@ -58,8 +58,10 @@ map-with_number {rank} {stands} x (y ∷ ys) rises sx stand =
         later : (b : Bool) → (b || member z ys) ≡ true
         later true = refl
         later false = is
+
     sy : stands y ≡ true
     sy = stand y (member_here y ys)
+
     by : map rank (with_number x ys) ≡ with_number (rank x) (map rank ys) → (ltb x y ≡ true) ⊎ (ltb x y ≡ false) → (eqb x y ≡ true) ⊎ (eqb x y ≡ false) →
         map rank (with_number x (y ∷ ys)) ≡ with_number (rank x) (rank y ∷ map rank ys)
     by more (inl below) equal =
@@ -99,6 +101,7 @@ map-filter rank p q (x ∷ xs) same = by (map-filter rank p q xs (λ y is. same 
         later : (b : Bool) → (b || member z xs) ≡ true
         later true = refl
         later false = is
+
     by : map rank (filter p xs) ≡ filter q (map rank xs) → (p x ≡ true) ⊎ (p x ≡ false) → map rank (filter p (x ∷ xs)) ≡ filter q (rank x ∷ map rank xs)
     by rest (inl passes) =
         let at : q (rank x) ≡ true = same x (member_here x xs) ∙ passes in
@@ -121,8 +124,15 @@ new_places_ranked : {rank : ℕ → ℕ} {stands : ℕ → Bool} {live : ℕ} {p
     map rank (new_places cut) ≡ new_gaps live gap
 new_places_ranked {rank} {stands} {live} gap cut at =
     map-append rank (cond (cut.improved && not cut.at_start) (cut.from ∷ []) []) (cond (cut.improved && not cut.at_end) (cut.to ∷ []) []) ∙
-    rw (map-wanted rank (cut.improved && not cut.at_start) cut.from, map-wanted rank (cut.improved && not cut.at_end) cut.to, at.from, at.to, at.improved,
-    flag_is cut.at_start gap.from 0 at.at_start, flag_is cut.at_end gap.to live at.at_end) refl
+    rw (
+      map-wanted rank (cut.improved && not cut.at_start) cut.from,
+      map-wanted rank (cut.improved && not cut.at_end) cut.to,
+      at.from,
+      at.to,
+      at.improved,
+      flag_is cut.at_start gap.from 0 at.at_start,
+      flag_is cut.at_end gap.to live at.at_end,
+    ) refl
 
 flat_ranked : (rank : ℕ → ℕ) (stands : ℕ → Bool) (live : ℕ) (places : List ℕ) (gaps : List GapCut) (cuts : List Cut) →
     AllZip (IsAtPlaces rank stands live places) gaps cuts → map rank (flat_map new_places cuts) ≡ flat_map (new_gaps live) gaps
@@ -165,8 +175,10 @@ edges_stand {rank} {stands} {live} {places} gap cut at y is =
   where
     left : List ℕ
     left = cond (cut.improved && not cut.at_start) (cut.from ∷ []) []
+
     right : List ℕ
     right = cond (cut.improved && not cut.at_end) (cut.to ∷ []) []
+
     wanted : (b : Bool) (x : ℕ) → stands x ≡ true → member y (cond b (x ∷ []) []) ≡ true → stands y ≡ true
     wanted true x sx has = here (or_cases (eqb y x) false has)
       where
@@ -174,6 +186,7 @@ edges_stand {rank} {stands} {live} {places} gap cut at y is =
         here (inl same) = ap stands (eqb-true y x same) ∙ sx
         here (inr none) = absurd (false≢true none)
     wanted false x sx has = absurd (false≢true has)
+
     one : (member y left ≡ true) ⊎ (member y right ≡ true) → stands y ≡ true
     one (inl has) = wanted (cut.improved && not cut.at_start) cut.from at.from_stands has
     one (inr has) = wanted (cut.improved && not cut.at_end) cut.to at.to_stands has
@@ -204,15 +217,18 @@ settled_ranked rank stands live places gaps cuts rises all at =
   where
     stay : List ℕ
     stay = filter (λ place. not (list_any (is_dropped places place) cuts)) places
+
     kept : map rank stay ≡ filter (λ gap. not (list_any (is_dropped_gap gap) gaps)) (map rank places)
     kept = map-filter rank (λ place. not (list_any (is_dropped places place) cuts)) (λ gap. not (list_any (is_dropped_gap gap) gaps)) places
         (λ x is. ap not (any_dropped_ranked rank stands live places x gaps cuts rises (all_member (λ place. stands place ≡ true) places all x is) all at))
+
     which : (y : ℕ) → (member y stay ≡ true) ⊎ (member y (flat_map new_places cuts) ≡ true) → stands y ≡ true
     which y (inl old) =
         let parts = and_parts (member y places) (not (list_any (is_dropped places y) cuts))
         (sym (member-filter (λ place. not (list_any (is_dropped places place) cuts)) y places) ∙ old) in
         all_member (λ place. stands place ≡ true) places all y parts.0
     which y (inr new) = flat_stand rank stands live places gaps cuts at y new
+
     stand : (y : ℕ) → member y (stay ++ flat_map new_places cuts) ≡ true → stands y ≡ true
     stand y is = which y (or_cases (member y stay) (member y (flat_map new_places cuts)) (sym (member-append y stay (flat_map new_places cuts)) ∙ is))
 
@@ -279,19 +295,24 @@ round_in_order rank stands w live places gaps cuts some rises up of = record {
   where
     after : (k : ℕ) (d : Cut) → k < length cuts → AtGaps rank stands w live places gaps (get_or cuts k d) k → (get_or cuts k d).from ≤ get_or places (get_or cuts k d).finger 0
     after k d lt g = place_from_rank (get_or cuts k d).from (get_or places (get_or cuts k d).finger 0) rises g.at.from_stands g.finger_stands (omega (arith, g.from_is))
+
     before : (k : ℕ) (d : Cut) → k < length cuts → AtGaps rank stands w live places gaps (get_or cuts k d) k → get_or places (get_or cuts k d).finger 0 ≤ (get_or cuts k d).to
     before k d lt g = place_from_rank (get_or places (get_or cuts k d).finger 0) (get_or cuts k d).to rises g.finger_stands g.at.to_stands (omega (arith, g.to_is, g.up_to))
+
     count : length gaps ≡ length (selected w (map rank places))
     count = sym (length-map gaps (λ (cut : GapCut). cut.finger)) ∙ ap length of.fingers
+
     far : (i j : ℕ) (d : Cut) → i < j → AtGaps rank stands w live places gaps (get_or cuts i d) i → AtGaps rank stands w live places gaps (get_or cuts j d) j →
         rank (get_or places (get_or cuts i d).finger 0) + 2 * w ≤ rank (get_or places (get_or cuts j d).finger 0)
     far i j d lt g h = omega (arith, g.selected_is, h.selected_is, selected_far w (map rank places) i j 0 lt (omega (arith, count, h.in_range)))
+
     fingers : (i j : ℕ) (d : Cut) → i < j → AtGaps rank stands w live places gaps (get_or cuts i d) i → AtGaps rank stands w live places gaps (get_or cuts j d) j →
         (get_or cuts i d).finger < (get_or cuts j d).finger
     fingers i j d lt g h = by (cases_lt (get_or cuts i d).finger (get_or cuts j d).finger)
       where
         P : ℕ → Type 0
         P n = rank (get_or places (get_or cuts j d).finger 0) ≤ rank n
+
         back : (get_or cuts j d).finger ≤ (get_or cuts i d).finger → rank (get_or places (get_or cuts j d).finger 0) ≤ rank (get_or places (get_or cuts i d).finger 0)
         back ge = which (cases_lt (get_or places (get_or cuts j d).finger 0) (get_or places (get_or cuts i d).finger 0))
           where
@@ -306,9 +327,11 @@ round_in_order rank stands w live places gaps cuts some rises up of = record {
                 omega (arith, place_up_to places (get_or cuts j d).finger (get_or cuts i d).finger up ge g.at.in_range) in
                 let Q : ℕ → Type 0 = λ n. rank (get_or places (get_or cuts j d).finger 0) ≤ rank n in
                 subst Q same (omega arith)
+
         by : ((get_or cuts i d).finger < (get_or cuts j d).finger) ⊎ ((get_or cuts j d).finger ≤ (get_or cuts i d).finger) → (get_or cuts i d).finger < (get_or cuts j d).finger
         by (inl less) = less
         by (inr more) = absurd (omega (arith, far i j d lt g h, back more, some))
+
     apart : (i j : ℕ) (d : Cut) → i < j → AtGaps rank stands w live places gaps (get_or cuts i d) i → AtGaps rank stands w live places gaps (get_or cuts j d) j →
         (get_or cuts i d).to ≤ (get_or cuts j d).from
     apart i j d lt g h =

@@ -1,10 +1,10 @@
-use Rattle.std.proofs.Common.{◌≡◌, ℕ, zero, suc, ◌+◌, ◌-◌, ◌<◌, ◌≤◌, Bool, true, false, cond, ◌||◌, eqb, ltb, List, [], ◌∷◌, ◌++◌, length, get_or, refl, sym, ap, subst, ◌∙◌, arith, inl, inr, ◌⊎◌, add-one}
+use Rattle.std.proofs.Common.{◌≡◌, ℕ, zero, suc, ◌+◌, ◌-◌, ◌<◌, ◌≤◌, true, false, ◌||◌, eqb, ltb, List, [], ◌∷◌, ◌++◌, length, get_or, refl, sym, ap, subst, ◌∙◌, arith, inl, inr, ◌⊎◌, add-one}
 use Rattle.std.specs.List.Sorted.{IsStrictlyIncreasing}
 use Rattle.std.specs.List.{All, Contains}
-use Rattle.std.proofs.lemmas.Bool.{le-ltb, ne_eqb, eqb-true, eq-eqb, cases_eq, cases_lt, cases_Bool, or_cases, or_left, or_right}
+use Rattle.std.proofs.lemmas.Bool.{le-ltb, ne_eqb, eqb-true, cases_lt, cases_Bool, or_cases, or_right}
 use Rattle.std.proofs.lemmas.List.{get_or_default}
-use Rattle.pq_finger.specs.Gaps.{with_number, ascending}
-use Rattle.pq_finger.proofs.Ascending.{member, Rises, Rises-with_number, Rises-weaker, member-with_number, member_here, same_rising, Rises-ascending}
+use Rattle.pq_finger.specs.Gaps.{with_number}
+use Rattle.pq_finger.proofs.Ascending.{member, Rises, Rises-with_number, Rises-weaker, member-with_number, member_here, same_rising}
 
 -- each number is below the next
 pub next_above : (least : ℕ) (xs : List ℕ) (k : ℕ) → Rises least xs → suc k < length xs → get_or xs k 0 < get_or xs (suc k) 0
@@ -99,6 +99,7 @@ all_below least x xs rises all last y is = by (cases_lt y x)
   where
     found : Contains xs y
     found = contains_from_member y xs is
+
     at_end : y ≡ x → (suc found.0 < length xs) ⊎ (length xs ≤ suc found.0) → ⊥
     at_end same (inl more) =
         let above : get_or xs found.0 0 < get_or xs (suc found.0) 0 = next_above least xs found.0 rises more in
@@ -110,6 +111,7 @@ all_below least x xs rises all last y is = by (cases_lt y x)
         let here : get_or xs found.0 0 ≡ y = get_or_default xs found.0 0 y found.1 ∙ found.2 in
         let P : ℕ → Type 0 = λ n. get_or xs n 0 ≡ x in
         last (omega (arith, found.1)) (subst P count (here ∙ same))
+
     by : (y < x) ⊎ (x ≤ y) → y < x
     by (inl lt) = lt
     by (inr ge) = absurd (at_end (omega (arith, all_member (λ z. z ≤ x) xs all y is)) (cases_lt (suc found.0) (length xs)))

@@ -1,11 +1,11 @@
-use Rattle.std.proofs.Common.{◌≡◌, ℕ, zero, suc, ◌+◌, ◌-◌, ◌*◌, ◌<◌, ◌≤◌, min, Bool, true, false, cond, ◌||◌, eqb, leb, List, [], ◌∷◌, ◌++◌, length, get_or, refl, sym, ap, subst, ◌∙◌, arith, inl, inr, ◌⊎◌}
+use Rattle.std.proofs.Common.{◌≡◌, ℕ, ◌+◌, ◌*◌, ◌<◌, ◌≤◌, true, false, ◌||◌, eqb, leb, List, [], ◌∷◌, ◌++◌, refl, sym, ap, subst, ◌∙◌, arith, inl, inr, ◌⊎◌}
 use Rattle.std.specs.List.{All, AllPairs, Contains}
 use Rattle.std.proofs.lemmas.Bool.{cases_lt, le-leb, lt-leb, or_cases, or_left, or_right}
 use Rattle.std.proofs.lemmas.List.Elements.{All-nil, All-cons, All-head, All-tail}
 use Rattle.std.proofs.lemmas.List.Kept.{AllPairs-cons}
 use Rattle.pq_finger.specs.Gaps.{selected, selected_from, IsSelection, none, next, BeginsFrom, segment_from, segment_to}
 use Rattle.pq_finger.proofs.Ascending.{member}
-use Rattle.pq_finger.proofs.Rising.{all_member, All-from_member, contains_from_member, member_from_contains}
+use Rattle.pq_finger.proofs.Rising.{contains_from_member, member_from_contains}
 
 -- what is passed until a gap may be taken, and the selection of the rest
 record Split (omega_ least : ℕ) (gaps : List ℕ) : Type 0 where
@@ -18,7 +18,12 @@ record Split (omega_ least : ℕ) (gaps : List ℕ) : Type 0 where
 
 split_at : (omega_ least : ℕ) (gaps : List ℕ) → Split omega_ least gaps
 split_at w least [] = record {
-  passed = []; rest = []; whole = refl; below = All-nil (λ other. other < least); begins = tt; selection = none
+  passed = [];
+  rest = [];
+  whole = refl;
+  below = All-nil (λ other. other < least);
+  begins = tt;
+  selection = none;
 }
 split_at w least (gap ∷ gaps) = by (split_at w least gaps) (split_at w (gap + 2 * w) gaps) (cases_lt gap least)
   where
@@ -94,6 +99,7 @@ member_selected_from w least z (gap ∷ gaps) is =
       where
         taken : (eqb z gap || member z (selected_from w (gap + 2 * w) gaps)) ≡ true
         taken = let may : leb least gap ≡ true = le-leb least gap ge in rw may at is
+
         which : (eqb z gap ≡ true) ⊎ (member z (selected_from w (gap + 2 * w) gaps) ≡ true) → member z (gap ∷ gaps) ≡ true
         which (inl here) = or_left (eqb z gap) (member z gaps) here
         which (inr later) = or_right (eqb z gap) (member z gaps) (after later)

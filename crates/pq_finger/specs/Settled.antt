@@ -1,4 +1,4 @@
-use Rattle.std.specs.Prelude.{◌≡◌, ◌⊎◌, ℕ, ◌+◌, ◌<◌, ◌≤◌, Bool, false, ◌||◌, not, ◌==◌, List, ◌++◌, length, filter, slice_index, All, AllPairs, IsTrue}
+use Rattle.std.specs.Prelude.{◌≡◌, ◌⊎◌, ℕ, ◌<◌, ◌≤◌, Bool, false, ◌||◌, not, ◌==◌, List, ◌++◌, length, filter, slice_index, All, AllPairs, IsTrue}
 use Rattle.std.specs.List.{list_any, flat_map}
 use Rattle.pq_finger.specs.declared.cut.Cut.{Cut}
 use Rattle.pq_finger.specs.Gaps.{ascending, is_inside, inner_edges}

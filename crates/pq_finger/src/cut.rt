@@ -22,28 +22,28 @@ pub struct Cut {
 impl Cut {
     /// Whether the finger of this index, which stands at this place, is dropped: it was selected, or
     /// stands strictly inside the segment, which was improved.
-    pub fn drops(&self, index: u64, place: u64) -> bool
+    pub(crate) fn drops(&self, index: u64, place: u64) -> bool
         ensures { result ≡ ((index == self.now.finger) || is_inside self.now.improved self.now.from self.now.to place) }
     {
         index == self.finger || self.improved && self.from < place && place < self.to
     }
 
     /// Whether the place where the segment begins becomes a finger.
-    pub fn keeps_from(&self) -> bool
+    pub(crate) fn keeps_from(&self) -> bool
         ensures { result ≡ (self.now.improved && not self.now.at_start) }
     {
         self.improved && !self.at_start
     }
 
     /// Whether the place where the segment ends becomes a finger.
-    pub fn keeps_to(&self) -> bool
+    pub(crate) fn keeps_to(&self) -> bool
         ensures { result ≡ (self.now.improved && not self.now.at_end) }
     {
         self.improved && !self.at_end
     }
 
     /// Whether the cut's finger and its segment come before the finger of this index at this place.
-    pub fn is_before(&self, index: u64, place: u64) -> bool
+    pub(crate) fn is_before(&self, index: u64, place: u64) -> bool
         ensures { IsTrue result ↔ IsBefore index place self.now }
     {
         self.finger < index && self.to <= place

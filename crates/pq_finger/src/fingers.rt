@@ -60,9 +60,7 @@ impl Fingers {
         requires rising { IsStrictlyIncreasing ranks.now }
         ensures in_range { IfOk result (λ list. All (λ index. index < length self.now) list.items) }
         ensures rising { IfOk result (λ list. IsStrictlyIncreasing list.items) }
-        ensures selected {
-            IfOk result (λ list. map (slice_index ranks.now) list.items ≡ selected omega ranks.now)
-        }
+        ensures selected { IfOk result (λ list. map (slice_index ranks.now) list.items ≡ selected omega ranks.now) }
 
         // The list has no room for more.
         ensures full { IfOk result (λ list. list.room ≡ length list.items) }
@@ -100,7 +98,16 @@ impl Fingers {
     {
         let mut places = self.places;
         places.copy_from_slice(to);
-        places.dedup();
+        drop_repeats(&mut places);
         Fingers { places }
     }
+}
+
+/// Drops repeats from places that don't fall.
+fn drop_repeats(places: &mut Vec<u64>)
+    requires { IsNonDecreasing places.old.items }
+    ensures kept { places.new.items ≡ ascending places.old.items }
+    ensures rising { IsStrictlyIncreasing places.new.items }
+{
+    places.dedup();
 }

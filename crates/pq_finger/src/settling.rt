@@ -28,7 +28,13 @@ pub fn settle_fingers(list: &mut Vec<u64>, places: &[u64], cuts: &[Cut]) -> usiz
 
 /// Puts the boundaries of the next cut, where it is before the finger of this index. Answers how many
 /// cuts are left behind then.
-fn leave_behind(list: &mut Vec<u64>, places: &[u64], cuts: &[Cut], index: usize, behind: usize) -> usize
+fn leave_behind(
+    list: &mut Vec<u64>,
+    places: &[u64],
+    cuts: &[Cut],
+    index: usize,
+    behind: usize,
+) -> usize
     requires in_range { index < length places.now }
     requires room { length places.now + 2 * length cuts.now ≤ vec_capacity list.old }
     requires rising { IsStrictlyIncreasing places.now }
@@ -65,9 +71,7 @@ fn settle_finger(list: &mut Vec<u64>, places: &[u64], cuts: &[Cut], index: usize
 pub fn settle_boundaries(list: &mut Vec<u64>, cuts: &[Cut])
     requires room { vec_len list.old + 2 * length cuts.now ≤ vec_capacity list.old }
     requires rising { IsStrictlyIncreasing list.old.items }
-    requires ahead {
-        (d : Cut) → 0 < length cuts.now → All (λ place. place ≤ first_edge (slice_index_or cuts.now 0 d)) list.old.items
-    }
+    requires ahead { (d : Cut) → 0 < length cuts.now → All (λ place. place ≤ first_edge (slice_index_or cuts.now 0 d)) list.old.items }
     requires not_turned { All (λ cut. cut.from ≤ cut.to) cuts.now }
     requires apart { AllPairs (λ cut later. cut.to ≤ later.from) cuts.now }
     ensures { list.new.items ≡ ascending (list.old.items ++ flat_map new_places cuts.now) }

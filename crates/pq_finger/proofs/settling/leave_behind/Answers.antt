@@ -1,4 +1,4 @@
-use Rattle.std.proofs.Common.{◌≡◌, List, ◌++◌, take, refl, rules, sym, ◌∙◌, arith, subst, false, true}
+use Rattle.std.proofs.Common.{◌++◌, take, refl, arith, subst}
 use Rattle.std.specs.List.{flat_map, filter, slice_index}
 use Rattle.std.proofs.lemmas.Bool.{false≢true}
 use Rattle.std.proofs.lemmas.List.{get_or_default}

@@ -1,4 +1,4 @@
-use Rattle.std.proofs.Common.{◌≡◌, refl, sym, ◌∙◌, arith, get_or}
+use Rattle.std.proofs.Common.{◌∙◌, arith}
 use Rattle.std.proofs.lemmas.List.{get_or_default}
 use Rattle.pq_finger.proofs.Rising.{put_again, put_behind}
 use Rattle.pq_finger.proofs.settling.put.Goals as goal

@@ -1,4 +1,3 @@
-use Rattle.std.proofs.Common.{◌≡◌, refl, sym, ◌∙◌, arith}
 use Rattle.pq_finger.proofs.Putting.{put_edges, up_to_to_then, increasing_then}
 use Rattle.pq_finger.proofs.settling.put_boundaries.Goals as goal
 

@@ -1,4 +1,4 @@
-use Rattle.std.proofs.Common.{◌≡◌, ℕ, ◌+◌, ◌-◌, ◌*◌, ◌<◌, ◌≤◌, List, ◌++◌, length, take, get_or, vec_len, vec_capacity}
+use Rattle.std.proofs.Common.{◌≡◌, ◌+◌, ◌-◌, ◌*◌, ◌<◌, ◌≤◌, ◌++◌, length, take, get_or, vec_len, vec_capacity}
 use Rattle.std.specs.List.{All, flat_map}
 use Rattle.pq_finger.specs.declared.cut.Cut.{Cut}
 use Rattle.pq_finger.specs.Gaps.{ascending}

@@ -1,6 +1,5 @@
-use Rattle.std.proofs.Common.{◌≡◌, List, ◌++◌, take, refl, sym, ◌∙◌, arith}
+use Rattle.std.proofs.Common.{◌++◌, take, sym, arith}
 use Rattle.std.specs.List.{flat_map, filter}
-
 use Rattle.pq_finger.specs.Settled.{new_places}
 use Rattle.pq_finger.proofs.Putting.{increasing-ascending}
 use Rattle.pq_finger.proofs.Halfway.{stays, no_cut, own_and_inside, SettledUpTo-puts}

@@ -1,4 +1,4 @@
-use Rattle.std.proofs.Common.{◌≡◌, refl}
+use Rattle.std.proofs.Common.{refl}
 use Rattle.pq_finger.proofs.Halfway.{SettledUpTo-none}
 use Rattle.pq_finger.proofs.settling.settle_fingers.Goals as goal
 

@@ -1,4 +1,4 @@
-use Rattle.std.proofs.Common.{◌≡◌, refl, sym, ap, ◌∙◌, arith, vec_len, vec_capacity}
+use Rattle.std.proofs.Common.{sym, ◌∙◌, arith}
 use Rattle.pq_finger.proofs.Choosing.{ChosenUpTo-none, ChosenUpTo-all, ChosenUpTo-takes, ChosenUpTo-passes}
 use Rattle.pq_finger.proofs.fingers.Fingers.select.Goals as goal
 use Rattle.pq_finger.proofs.fingers.Fingers.select.Goals.{then-stands_apart, else-stands_apart}
