@@ -122,7 +122,7 @@ member_wanted true x z = ((λ is. (refl, eqb-true z x (just (eqb z x) is))), (λ
 member_wanted false x z = ((λ is. absurd (false≢true is)), (λ same. absurd (false≢true same.0)))
 
 -- the boundaries that become fingers
-edges_exactly : (improved at_start at_end : Bool) (from to z : ℕ) →
+pub edges_exactly : (improved at_start at_end : Bool) (from to z : ℕ) →
     (member z (inner_edges improved at_start at_end from to) ≡ true) ↔
     ((improved ≡ true) × (((z ≡ from) × (at_start ≡ false)) ⊎ ((z ≡ to) × (at_end ≡ false))))
 edges_exactly improved at_start at_end from to z = (there, back)

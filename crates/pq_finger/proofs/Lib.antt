@@ -10,3 +10,4 @@ pub mod Choosing
 pub mod Selections
 pub mod Exactly
 pub mod RankLaws
+pub mod RoundRanks

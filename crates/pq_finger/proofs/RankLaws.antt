@@ -5,7 +5,7 @@ use Rattle.std.specs.List.Sorted.{IsStrictlyIncreasing}
 use Rattle.std.proofs.lemmas.Bool.{cases_Bool, cases_order, cases_lt, eqb-true, eq-eqb, ne_eqb, le-ltb, lt-ltb, or_cases, and_parts, false≢true}
 use Rattle.std.proofs.lemmas.List.{map-append, get_or-map, length-map}
 use Rattle.pq_finger.specs.declared.cut.Cut.{Cut}
-use Rattle.pq_finger.specs.Gaps.{with_number, ascending, kept_gaps, new_gaps, moved_gap, new_fingers, is_dropped_gap, GapCut, selected}
+use Rattle.pq_finger.specs.Gaps.{with_number, ascending, kept_gaps, new_gaps, is_dropped_gap, GapCut, selected}
 use Rattle.pq_finger.specs.Settled.{settled, is_dropped, new_places, AreInOrder}
 use Rattle.pq_finger.specs.Ranks.{IsRank, IsAtPlaces, AreCutsOf}
 use Rattle.pq_finger.proofs.Ascending.{member, member-append, member-ascending, member_here}
@@ -191,7 +191,7 @@ edges_stand {rank} {stands} {live} {places} gap cut at y is =
     one (inl has) = wanted (cut.improved && not cut.at_start) cut.from at.from_stands has
     one (inr has) = wanted (cut.improved && not cut.at_end) cut.to at.to_stands has
 
-flat_stand : (rank : ℕ → ℕ) (stands : ℕ → Bool) (live : ℕ) (places : List ℕ) (gaps : List GapCut) (cuts : List Cut) →
+pub flat_stand : (rank : ℕ → ℕ) (stands : ℕ → Bool) (live : ℕ) (places : List ℕ) (gaps : List GapCut) (cuts : List Cut) →
     AllZip (IsAtPlaces rank stands live places) gaps cuts → (y : ℕ) → member y (flat_map new_places cuts) ≡ true → stands y ≡ true
 flat_stand rank stands live places gaps [] at y is = absurd (false≢true is)
 flat_stand rank stands live places [] (cut ∷ cuts) at y is = absurd at
@@ -231,13 +231,6 @@ settled_ranked rank stands live places gaps cuts rises all at =
 
     stand : (y : ℕ) → member y (stay ++ flat_map new_places cuts) ≡ true → stands y ≡ true
     stand y is = which y (or_cases (member y stay) (member y (flat_map new_places cuts)) (sym (member-append y stay (flat_map new_places cuts)) ∙ is))
-
--- the new places without repeats have the gaps of the new fingers
-pub moved_ranked : (rank : ℕ → ℕ) (stands : ℕ → Bool) (live : ℕ) (cuts : List GapCut) (fingers to : List ℕ) → IsRank rank stands →
-    All (λ place. stands place ≡ true) to → map rank to ≡ map (moved_gap cuts) (kept_gaps live cuts fingers) →
-    map rank (ascending to) ≡ new_fingers live cuts fingers
-moved_ranked rank stands live cuts fingers to rises all same =
-    map-ascending to rises (all_member (λ place. stands place ≡ true) to all) ∙ ap ascending same
 
 -- what holds of two lists place by place
 zip_at : {A B : Type 0} (R : A → B → Type 0) (xs : List A) (ys : List B) (k : ℕ) (d : A) (e : B) → AllZip R xs ys → k < length ys →

@@ -1,4 +1,4 @@
-use Rattle.std.specs.Prelude.{◌≡◌, ◌↔◌, ℕ, ◌<◌, ◌≤◌, Bool, IsTrue, List, length, map, slice_index, All}
+use Rattle.std.specs.Prelude.{◌≡◌, ◌↔◌, ◌⊎◌, ℕ, ◌+◌, ◌<◌, ◌≤◌, Bool, IsTrue, List, length, map, slice_index, All}
 use Rattle.std.specs.List.{AllZip}
 use Rattle.pq_finger.specs.declared.cut.Cut.{Cut}
 use Rattle.pq_finger.specs.Gaps.{GapCut, segment_from, segment_to, selected}
@@ -29,3 +29,12 @@ pub record AreCutsOf (rank : ℕ → ℕ) (stands : ℕ → Bool) (omega live : 
   pub fingers : map (λ (cut : GapCut). cut.finger) gaps ≡ selected omega (map rank places)
   pub begin : All (λ cut. cut.from ≡ segment_from omega cut.finger) gaps
   pub end : All (λ cut. cut.to ≡ segment_to omega live cut.finger) gaps
+
+-- What a round does to the ranks of places, where cells are left as tombstones. Between two places with no
+-- improved segment between them there are as many live cells as before, and between the ends of an
+-- improved segment so many fewer as it lost.
+pub record LosesGates (old new : ℕ → ℕ) (gaps : List GapCut) (cuts : List Cut) : Type 0 where
+  pub start : new 0 ≡ old 0
+  pub outside : (place later : ℕ) → place ≤ later →
+      All (λ cut. IsTrue cut.improved → (cut.to ≤ place) ⊎ (later ≤ cut.from)) cuts → new later + old place ≡ new place + old later
+  pub inside : AllZip (λ (gap : GapCut) (cut : Cut). IsTrue cut.improved → new cut.to + gap.lost + old cut.from ≡ new cut.from + old cut.to) gaps cuts

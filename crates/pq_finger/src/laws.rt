@@ -2,9 +2,9 @@ ghost use Rattle.std.specs.Prelude.{◌≡◌, ◌↔◌, ◌⊎◌, ◌+◌, �
 ghost use Rattle.std.specs.List.{AllZip};
 ghost use Rattle.std.specs.List.Sorted.{IsStrictlyIncreasing};
 ghost use Rattle.pq_finger.specs.declared.cut.Cut.{Cut};
-ghost use Rattle.pq_finger.specs.Gaps.{first_fingers, segment_from, segment_to, selected, ascending, kept_gaps, moved_gap, new_fingers, GapCut, IsSelection, DropsGap, MakesGap};
+ghost use Rattle.pq_finger.specs.Gaps.{first_fingers, segment_from, segment_to, selected, ascending, kept_gaps, new_fingers, GapCut, IsSelection, DropsGap, MakesGap};
 ghost use Rattle.pq_finger.specs.Settled.{settled, AreInOrder, DropsPlace, MakesPlace};
-ghost use Rattle.pq_finger.specs.Ranks.{IsRank, IsAtPlaces, AreCutsOf};
+ghost use Rattle.pq_finger.specs.Ranks.{IsRank, IsAtPlaces, AreCutsOf, LosesGates};
 
 /// The first fingers are, in order, the gaps that are multiples of Omega and less than the number of
 /// live gates.
@@ -64,10 +64,11 @@ pub fn settled_places_have_the_kept_gaps()
 {}
 
 /// What `Fingers::moved` does at places is what a round does at gaps: where the new places have the ranks
-/// to which the kept gaps move, those without repeats have the gaps of the new fingers.
+/// that the settled places have after the round, those without repeats have the gaps of the new fingers.
 pub fn moved_places_have_the_new_gaps()
-    ensures { (rank : ℕ → ℕ) (stands : ℕ → Bool) (live : ℕ) (cuts : List GapCut) (fingers to : List ℕ) →
-        IsRank rank stands → All (λ place. IsTrue (stands place)) to →
-        map rank to ≡ map (moved_gap cuts) (kept_gaps live cuts fingers) →
-        map rank (ascending to) ≡ new_fingers live cuts fingers }
+    ensures { (old new : ℕ → ℕ) (stood stands : ℕ → Bool) (live : ℕ) (places to : List ℕ) (gaps : List GapCut) (cuts : List Cut) →
+        IsRank old stood → All (λ place. IsTrue (stood place)) places →
+        AllZip (IsAtPlaces old stood live places) gaps cuts → AreInOrder places cuts → LosesGates old new gaps cuts →
+        IsRank new stands → All (λ place. IsTrue (stands place)) to → map new to ≡ map new (settled places cuts) →
+        map new (ascending to) ≡ new_fingers live gaps (map old places) }
 {}
