@@ -1,0 +1,6 @@
+pub mod Cuts
+pub mod Lines
+pub mod Names
+pub mod Numbers
+pub mod Places
+pub mod Thin

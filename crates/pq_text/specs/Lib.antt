@@ -1,0 +1,8 @@
+pub use Rattle.pq_gate.specs.Circuit
+pub mod Name
+pub mod Program
+pub mod Print
+pub mod WellFormed
+pub mod Digits
+pub mod Words
+pub mod Thin

@@ -1,0 +1,26 @@
+-- The names of registers.
+use Rattle.std.specs.Prelude.{◌≡◌, ℕ, ◌≤◌, ◌⊎◌, List, [], ◌∷◌, length, slice_index, All, Contains, codes}
+use Rattle.std.specs.Char.{IsAsciiLowercase, IsAsciiAlphanumeric}
+
+-- the words of the language, which are no names
+unfoldable pub reserved_words : List (List ℕ)
+reserved_words =
+    codes "qreg" ∷ codes "creg" ∷ codes "gate" ∷ codes "opaque" ∷ codes "barrier" ∷ codes "measure"
+    ∷ codes "reset" ∷ codes "if" ∷ codes "include" ∷ codes "pi" ∷ codes "sin" ∷ codes "cos" ∷ codes "tan"
+    ∷ codes "exp" ∷ codes "ln" ∷ codes "sqrt" ∷ []
+
+-- a letter, a digit or `_`
+abbrev pub IsNameByte : ℕ → Type 0
+IsNameByte b = IsAsciiAlphanumeric b ⊎ (b ≡ 95)
+
+-- A lower-case letter, then letters, digits or `_`, and no word of the language. A text without a first
+-- byte has 0 there, which is no letter.
+pub record IsLawfulName (name : List ℕ) : Type 0 where
+  pub first : IsAsciiLowercase (slice_index name 0)
+  pub bytes : All IsNameByte name
+  pub free : ¬ Contains reserved_words name
+
+-- a lawful name that a register may have: it has at most 64 bytes
+pub record IsRegisterName (name : List ℕ) : Type 0 where
+  pub lawful : IsLawfulName name
+  pub short : length name ≤ 64
