@@ -1,0 +1,12 @@
+pub use Rattle.pq_text.specs.Program
+pub use Rattle.pq_text.specs.WellFormed
+pub mod Lists
+pub mod Faults
+pub mod Words
+pub mod Environment
+pub mod Arguments
+pub mod Expansion
+pub mod After
+pub mod Pieces
+pub mod Reads
+pub mod Gives
