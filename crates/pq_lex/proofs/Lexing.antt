@@ -6,7 +6,7 @@ use Rattle.std.proofs.Math.Dec.{eqb-suc-zero}
 use Rattle.pq_lex.specs.declared.token.Form.TheVariants.{Missing}
 use Rattle.pq_lex.specs.Token.{TokenView, is_last}
 use Rattle.pq_lex.specs.Front.{Front, fronted, blank_length, front}
-use Rattle.pq_lex.specs.Lex.{Place, after, placed, then_rest, shown, lex, Position, moved, tokens, from_token}
+use Rattle.pq_lex.specs.Lex.{Place, after, placed, then_rest, shown, lex, Position, moved, tokens, from_token, first_form}
 use Rattle.pq_lex.proofs.Plain.{Plain, IsPlain, front_is_plain, blank_is_plain}
 
 place_of : ℕ → ℕ → Place
@@ -84,3 +84,7 @@ next-token old mid f t new same none is within shown_is moved_is =
     let e : tokens mid ≡ from_token (placed f at mid.rest) (tokens (moved f.count mid)) =
     subst P (sym is) (lex-token mid.line mid.column mid.rest none (subst (λ (g : Front). g.count ≤ length mid.rest) is within)) in
     sym same ∙ (e ∙ (λ i. from_token (sym shown_is i) (tokens (sym moved_is i))))
+
+pub peeked : (p : Position) (f : Front) → blank_length p.rest ≡ 0 → f ≡ front p.rest → f.count ≤ length p.rest → f.form ≡ first_form (tokens p)
+peeked p f none is within =
+    ap (λ (g : Front). g.form) is ∙ sym (ap first_form (lex-token p.line p.column p.rest none (subst (λ (g : Front). g.count ≤ length p.rest) is within)))

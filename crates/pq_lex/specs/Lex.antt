@@ -1,5 +1,6 @@
 -- The tokens of a text with their places.
 use Rattle.std.specs.Prelude.{ℕ, zero, suc, ◌+◌, ◌==◌, List, [], ◌∷◌, take, drop, if◌then◌else◌}
+use Rattle.pq_lex.specs.declared.token.Form.{Form}
 use Rattle.pq_lex.specs.declared.token.Form.TheVariants.{Missing}
 use Rattle.pq_lex.specs.Token.{TokenView, is_last}
 use Rattle.pq_lex.specs.Front.{Front, fronted, blank_length, front}
@@ -54,6 +55,10 @@ tokens p = lex 0 (record { line = p.line; column = p.column }) p.rest
 -- the tokens from one on, where `later` are those after it if it isn't the last
 abbrev pub from_token : TokenView → List TokenView → List TokenView
 from_token t later = t ∷ (if is_last t.form then [] else later)
+
+abbrev pub first_form : List TokenView → Form
+first_form [] = Missing
+first_form (t ∷ ts) = t.form
 
 -- the tokens of a whole text
 abbrev pub tokens_of : List ℕ → List TokenView

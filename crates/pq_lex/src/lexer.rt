@@ -1,10 +1,10 @@
 ghost use Rattle.std.specs.Prelude.{◌≡◌, ℕ, ◌+◌, ◌<◌, ◌≤◌, [], ◌∷◌, length, drop};
 ghost use Rattle.pq_lex.specs.Token.{seen};
 ghost use Rattle.pq_lex.specs.Front.{blank_length};
-ghost use Rattle.pq_lex.specs.Lex.{Position, tokens, moved, next_line, tokens_of, from_token};
+ghost use Rattle.pq_lex.specs.Lex.{Position, tokens, moved, next_line, tokens_of, from_token, first_form};
 
 use crate::front::{blank_front, token_front};
-use crate::token::Token;
+use crate::token::{Form, Token};
 use std::marker::Model;
 
 /// The most bytes that a text has.
@@ -112,5 +112,16 @@ impl<'t> Lexer<'t> {
         };
         self.advance(count);
         token
+    }
+
+    /// The form of the next token, which stays next.
+    #[inline(always)]
+    pub fn peek(&mut self) -> Form
+        ensures same { tokens self.new ≡ tokens self.old }
+        ensures form { result ≡ first_form (tokens self.new) }
+    {
+        self.skip_blanks();
+        let (form, _) = token_front(self.rest);
+        form
     }
 }

@@ -4,8 +4,10 @@
 #![tactic(auto)]
 
 mod front;
+mod laws;
 mod lexer;
 mod token;
 
+pub use laws::forms_have_numbers;
 pub use lexer::{Lexer, MAX_TEXT};
 pub use token::{Form, Token};

@@ -1,3 +1,6 @@
+ghost use Rattle.std.specs.Prelude.{◌≡◌};
+ghost use Rattle.pq_lex.specs.Token.{number_of};
+
 /// What kind of token it is.
 #[derive(Clone, Copy, Debug, PartialEq, Eq)]
 pub enum Form {
@@ -35,6 +38,15 @@ pub enum Form {
 
     /// A byte that begins no token, or the `"` of a text that isn't closed on its line.
     Malformed,
+}
+
+impl Form {
+    /// Its number in the order in which the forms are listed.
+    pub fn number(self) -> u8
+        ensures { result ≡ number_of self }
+    {
+        self as u8
+    }
 }
 
 /// A token and its place: the line and the column of its first byte, both counted from 1. The bytes

@@ -16,8 +16,7 @@ refused kind t = record { kind = kind; line = t.line; column = t.column }
 
 -- a token that isn't allowed at its place
 abbrev pub unexpected_kind : Form → Kind
-unexpected_kind Malformed = BadToken
-unexpected_kind _ = Syntax
+unexpected_kind form = if number_of form == number_of Malformed then BadToken else Syntax
 
 abbrev pub unexpected : TokenView → Refusal
 unexpected t = refused (unexpected_kind t.form) t

@@ -1,7 +1,8 @@
 -- What a function returned against what is read.
-use Rattle.std.specs.Prelude.{◌≡◌, List, Result, Ok, Err, if◌then◌else◌, [], ◌∷◌}
+use Rattle.std.specs.Prelude.{◌≡◌, ◌==◌, false, List, Result, Ok, Err, if◌then◌else◌, [], ◌∷◌}
 use Rattle.pq_lex.specs.declared.token.Form.TheVariants.{Semicolon}
-use Rattle.pq_lex.specs.Token.{TokenView}
+use Rattle.pq_lex.specs.Token.{TokenView, number_of, is_last}
+use Rattle.pq_lex.specs.declared.token.Form.{Form}
 use Rattle.pq_lex.specs.Lex.{Position, tokens}
 use Rattle.pq_read.specs.declared.refusal.Refusal.{Refusal}
 use Rattle.pq_read.specs.declared.refusal.ReadError.{ReadError}
@@ -31,3 +32,8 @@ left p = through (tokens p)
 
 abbrev pub later : Position → List TokenView
 later p = beyond (tokens p)
+
+-- a form that neither ends a piece nor is the last of a text
+pub record IsInside (form : Form) : Type 0 where
+  pub no_end : (number_of form == number_of Semicolon) ≡ false
+  pub no_last : is_last form ≡ false

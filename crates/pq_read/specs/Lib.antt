@@ -5,6 +5,7 @@ pub mod Faults
 pub mod Words
 pub mod Environment
 pub mod Arguments
+pub mod Registers
 pub mod Expansion
 pub mod After
 pub mod Pieces

@@ -17,7 +17,7 @@ abbrev pub is_name_byte : ℕ → Bool
 is_name_byte b = is_ascii_alphanumeric b || b == 95
 
 unfoldable pub is_name : List ℕ → Bool
-is_name name = is_ascii_lowercase (slice_index name 0) && (list_all is_name_byte name && not (list_any (bytes_eq name) reserved_words))
+is_name name = is_ascii_lowercase (slice_index name 0) && (list_all is_name_byte name && not (list_any (λ word. bytes_eq word name) reserved_words))
 
 -- the name of each gate that the include makes known
 abbrev pub gate_text : GateWord → List ℕ

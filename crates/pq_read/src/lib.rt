@@ -6,6 +6,8 @@ mod argument;
 mod name;
 mod program;
 mod refusal;
+mod registers;
+mod token;
 mod word;
 
 pub use name::Name;
