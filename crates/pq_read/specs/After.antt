@@ -55,14 +55,14 @@ include_at ts = do
   Ok (tt, e.1)
 
 -- the name of a new register
-abbrev pub is_taken : ProgramView → List ℕ → Bool
-is_taken p name = is_some (span_from 0 p.qregs name) || is_some (span_from 0 p.cregs name)
+abbrev pub is_taken : List RegisterView → List RegisterView → List ℕ → Bool
+is_taken qregs cregs name = is_some (span_from 0 qregs name) || is_some (span_from 0 cregs name)
 
-abbrev pub new_name : ProgramView → TokenView → Result (List ℕ) Refusal
-new_name p t =
+abbrev pub new_name : List RegisterView → List RegisterView → TokenView → Result (List ℕ) Refusal
+new_name qregs cregs t =
     if not (is_name t.bytes) then Err (refused Syntax t)
     else if nat_lt 64 (length t.bytes) then Err (refused NameTooLong t)
-    else if is_taken p t.bytes then Err (refused RepeatedName t)
+    else if is_taken qregs cregs t.bytes then Err (refused RepeatedName t)
     else Ok t.bytes
 
 -- the size of a new register beside those of its kind, of which there may be 4,096 places
@@ -72,11 +72,12 @@ new_size too_many regs t =
     else if nat_lt max_places (places_of regs + value_of t) then Err (refused too_many t)
     else Ok (value_of t)
 
--- `NAME[SIZE];` after `qreg` or `creg`
-unfoldable pub declared_at : Kind → ProgramView → List RegisterView → List TokenView → Reading RegisterView
-declared_at too_many p regs ts = do
+-- `NAME[SIZE];` after `qreg` or `creg`: the register beside those of all kinds, and how many of its kind
+-- there may be no more of
+unfoldable pub declared_at : Kind → List RegisterView → List RegisterView → List RegisterView → List TokenView → Reading RegisterView
+declared_at too_many qregs cregs regs ts = do
   n ← demanded Word ts
-  name ← new_name p n.0
+  name ← new_name qregs cregs n.0
   b ← demanded LeftBracket n.1
   i ← integer_at b.1
   size ← new_size too_many regs i.0
@@ -94,13 +95,13 @@ allowed options tail t =
 abbrev pub within_gates : List Gate → List Gate → TokenView → Result (Unit {0}) Refusal
 within_gates old new e = if nat_lt max_gates (length old + length new) then Err (refused TooManyGates e) else Ok tt
 
--- the arguments of a known gate and the `;`
-unfoldable pub gate_at : GateWord → ProgramView → List TokenView → Reading (List Gate)
-gate_at word p ts = do
-  a ← arguments_at p.qregs (more_arguments word) ts
+-- the arguments of a known gate and the `;`: the gates with those of the statement
+unfoldable pub gate_at : GateWord → List RegisterView → List Gate → List TokenView → Reading (List Gate)
+gate_at word qregs gates ts = do
+  a ← arguments_at qregs (more_arguments word) ts
   e ← demanded Semicolon a.1
-  room ← within_gates p.gates (gates_of word a.0) e.0
-  Ok (gates_of word a.0, e.1)
+  room ← within_gates gates (gates_of word a.0) e.0
+  Ok (gates ++ gates_of word a.0, e.1)
 
 -- each wire once, at its first appearance
 abbrev pub adjoined : List ℕ → ℕ → List ℕ
@@ -126,12 +127,13 @@ barrier_wires regs wires zero (t ∷ ts) = do
 abbrev pub within_tail : List TailView → ℕ → TokenView → Result (Unit {0}) Refusal
 within_tail tail more e = if nat_lt max_entries (entries_of tail + more) then Err (refused TailTooLong e) else Ok tt
 
-unfoldable pub barrier_at : ProgramView → List TokenView → Reading TailView
-barrier_at p ts = do
-  w ← barrier_wires p.qregs [] 0 ts
+-- the arguments of a barrier and the `;`: the tail with it
+unfoldable pub barrier_at : List RegisterView → List TailView → List TokenView → Reading (List TailView)
+barrier_at qregs tail ts = do
+  w ← barrier_wires qregs [] 0 ts
   e ← demanded Semicolon w.1
-  room ← within_tail p.tail (length w.0) e.0
-  Ok (view.Barrier w.0, e.1)
+  room ← within_tail tail (length w.0) e.0
+  Ok (tail ++ view.Barrier w.0 ∷ [], e.1)
 
 -- the measurements of the places of one argument into those of another
 abbrev pub measurements : Argument → Argument → List TailView
@@ -140,15 +142,16 @@ measurements a b = each_below a.count (λ k. view.Measure (a.first + k) (b.first
 abbrev pub paired : Argument → Argument → Result (Unit {0}) Refusal
 paired a b = if a.count == b.count then Ok tt else Err (record { kind = SizeMismatch; line = b.line; column = b.column })
 
-unfoldable pub measure_at : ProgramView → List TokenView → Reading (List TailView)
-measure_at p ts = do
-  a ← argument_at p.qregs ts
+-- the arguments of `measure` and the `;`: the tail with the measurements
+unfoldable pub measure_at : List RegisterView → List RegisterView → List TailView → List TokenView → Reading (List TailView)
+measure_at qregs cregs tail ts = do
+  a ← argument_at qregs ts
   m ← demanded Arrow a.1
-  b ← argument_at p.cregs m.1
+  b ← argument_at cregs m.1
   one ← paired a.0 b.0
   e ← demanded Semicolon b.1
-  room ← within_tail p.tail a.0.count e.0
-  Ok (measurements a.0 b.0, e.1)
+  room ← within_tail tail a.0.count e.0
+  Ok (tail ++ measurements a.0 b.0, e.1)
 
 -- what is read so far with something more
 abbrev pub with_program : Env → ProgramView → Env
@@ -162,10 +165,10 @@ with_creg E r = with_program E (record { qregs = E.program.qregs; cregs = E.prog
 
 -- a gate statement takes the barriers before it out of the tail
 abbrev pub with_gates : Env → List Gate → Env
-with_gates E gates = with_program E (record { qregs = E.program.qregs; cregs = E.program.cregs; gates = E.program.gates ++ gates; tail = [] })
+with_gates E gates = with_program E (record { qregs = E.program.qregs; cregs = E.program.cregs; gates = gates; tail = [] })
 
 abbrev pub with_tail : Env → List TailView → Env
-with_tail E tail = with_program E (record { qregs = E.program.qregs; cregs = E.program.cregs; gates = E.program.gates; tail = E.program.tail ++ tail })
+with_tail E tail = with_program E (record { qregs = E.program.qregs; cregs = E.program.cregs; gates = E.program.gates; tail = tail })
 
 -- a value that was read, put to use; the tokens after it are left
 abbrev pub put : {A : Type 0} → Reading A → (A → Env) → Reading Env
@@ -174,11 +177,11 @@ put reading f = reading >>= λ x. Ok (f x.0, x.1)
 -- a statement by its first word
 abbrev pub statement_by : FirstWord → Options → Env → TokenView → List TokenView → Reading Env
 statement_by Include options E t ts = put (include_at ts) (λ _. record { header = E.header; included = true; program = E.program })
-statement_by Qreg options E t ts = put (declared_at TooManyQubits E.program E.program.qregs ts) (with_qreg E)
-statement_by Creg options E t ts = put (declared_at TooManyBits E.program E.program.cregs ts) (with_creg E)
-statement_by Barrier options E t ts = put (barrier_at E.program ts) (λ b. with_tail E (b ∷ []))
-statement_by Measure options E t ts = put (measure_at E.program ts) (with_tail E)
-statement_by (KnownGate word) options E t ts = allowed options E.program.tail t >>= λ _. put (gate_at word E.program ts) (with_gates E)
+statement_by Qreg options E t ts = put (declared_at TooManyQubits E.program.qregs E.program.cregs E.program.qregs ts) (with_qreg E)
+statement_by Creg options E t ts = put (declared_at TooManyBits E.program.qregs E.program.cregs E.program.cregs ts) (with_creg E)
+statement_by Barrier options E t ts = put (barrier_at E.program.qregs E.program.tail ts) (with_tail E)
+statement_by Measure options E t ts = put (measure_at E.program.qregs E.program.cregs E.program.tail ts) (with_tail E)
+statement_by (KnownGate word) options E t ts = allowed options E.program.tail t >>= λ _. put (gate_at word E.program.qregs E.program.gates ts) (with_gates E)
 statement_by UnsupportedWord options E t ts = Err (refused Unsupported t)
 statement_by Unknown options E t ts = Err (refused UnknownGate t)
 

@@ -6,6 +6,7 @@ pub mod Words
 pub mod Environment
 pub mod Arguments
 pub mod Registers
+pub mod Listed
 pub mod Expansion
 pub mod After
 pub mod Pieces

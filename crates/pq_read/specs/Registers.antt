@@ -1,8 +1,9 @@
 -- What the registers of one kind keep.
-use Rattle.std.specs.Prelude.{◌≡◌, ℕ, ◌+◌, ◌≤◌, true, List}
+use Rattle.std.specs.Prelude.{◌≡◌, ℕ, ◌+◌, ◌≤◌, true, false, List}
 use Rattle.std.specs.List.{AllByRecursion}
 use Rattle.pq_text.specs.Program.{RegisterView, places_of}
 use Rattle.pq_read.specs.declared.argument.Span.{Span}
+use Rattle.pq_read.specs.declared.argument.Argument.{Argument}
 use Rattle.pq_read.specs.Words.{is_name}
 
 -- a register has a name and at least one place
@@ -21,3 +22,9 @@ pub record IsSpan (span : Span) (name : List ℕ) : Type 0 where
   pub named : is_name name ≡ true
   pub some : 1 ≤ span.size
   pub within : span.first + span.size ≤ 4096
+
+-- an argument has some places, and only one where it isn't a whole register
+pub record IsArgument (a : Argument) : Type 0 where
+  pub some : 1 ≤ a.count
+  pub within : a.first + a.count ≤ 4096
+  pub one : a.whole ≡ false → a.count ≡ 1

@@ -32,25 +32,45 @@ gate_text Cy = codes "cy"
 gate_text Swap = codes "swap"
 gate_text Ccx = codes "ccx"
 
-abbrev pub every_gate : List GateWord
-every_gate = H ∷ X ∷ Y ∷ Id ∷ Phase T ∷ Phase S ∷ Phase Z ∷ Phase Sdg ∷ Phase Tdg ∷ Cx ∷ Cz ∷ Cy ∷ Swap ∷ Ccx ∷ []
+abbrev pub coupled_gates : List GateWord
+coupled_gates = Cx ∷ Cz ∷ Cy ∷ Swap ∷ Ccx ∷ []
+
+abbrev pub turning_gates : List GateWord
+turning_gates = Phase T ∷ Phase Tdg ∷ Phase S ∷ Phase Sdg ∷ Phase Z ∷ []
+
+abbrev pub other_gates : List GateWord
+other_gates = H ∷ X ∷ Y ∷ Id ∷ []
 
 abbrev pub among : List GateWord → List ℕ → Option GateWord
 among [] word = None
 among (g ∷ gs) word = if bytes_eq (gate_text g) word then Some g else among gs word
 
+abbrev pub or_else : Option GateWord → Option GateWord → Option GateWord
+or_else None other = other
+or_else (Some g) other = Some g
+
+abbrev pub included_gate : List ℕ → Option GateWord
+included_gate word = or_else (among coupled_gates word) (or_else (among turning_gates word) (among other_gates word))
+
+abbrev pub always_gate : List ℕ → Option GateWord
+always_gate word = if bytes_eq (codes "CX") word then Some Cx else None
+
 -- `CX` is always known, the others after the include
 abbrev pub gate_named : Bool → List ℕ → Option GateWord
-gate_named included word = if bytes_eq (codes "CX") word then Some Cx else (if included then among every_gate word else None)
+gate_named included word = if included then or_else (included_gate word) (always_gate word) else always_gate word
 
 -- how many arguments a gate takes beside the first one
 abbrev pub more_arguments : GateWord → ℕ
+more_arguments H = 0
+more_arguments X = 0
+more_arguments Y = 0
+more_arguments Id = 0
+more_arguments (Phase eighths) = 0
 more_arguments Cx = 1
 more_arguments Cz = 1
 more_arguments Cy = 1
 more_arguments Swap = 1
 more_arguments Ccx = 2
-more_arguments _ = 0
 
 -- words of statements and gates that aren't accepted
 unfoldable pub unsupported_words : List (List ℕ)
@@ -67,7 +87,7 @@ other_word word =
     else if bytes_eq (codes "creg") word then Creg
     else if bytes_eq (codes "barrier") word then Barrier
     else if bytes_eq (codes "measure") word then Measure
-    else if list_any (bytes_eq word) unsupported_words then Unsupported
+    else if list_any (λ known. bytes_eq known word) unsupported_words then Unsupported
     else Unknown
 
 abbrev pub gate_or : Option GateWord → FirstWord → FirstWord

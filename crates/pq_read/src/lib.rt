@@ -3,6 +3,7 @@
 #![tactic(auto)]
 
 mod argument;
+mod gate;
 mod name;
 mod program;
 mod refusal;

@@ -11,17 +11,11 @@ use crate::argument::Span;
 use crate::program::Register;
 use crate::refusal::{Kind, ReadError};
 use crate::token::refused;
+use crate::word::is_text;
 use pq_lex::Token;
 use pq_text::is_lawful_name;
 use std::alloc::{AllocError, Global};
 use std::marker::Model;
-
-/// Whether two texts are the same.
-pub fn is_text(text: &[u8], word: &[u8]) -> bool
-    ensures { result ≡ bytes_eq text.now word.now }
-{
-    text == word
-}
 
 /// Whether a word is a name.
 pub fn is_name(word: &[u8]) -> bool
