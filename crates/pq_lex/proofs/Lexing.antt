@@ -88,3 +88,28 @@ next-token old mid f t new same none is within shown_is moved_is =
 pub peeked : (p : Position) (f : Front) → blank_length p.rest ≡ 0 → f ≡ front p.rest → f.count ≤ length p.rest → f.form ≡ first_form (tokens p)
 peeked p f none is within =
     ap (λ (g : Front). g.form) is ∙ sym (ap first_form (lex-token p.line p.column p.rest none (subst (λ (g : Front). g.count ≤ length p.rest) is within)))
+
+pub peeked_last : (p : Position) (f : Front) → blank_length p.rest ≡ 0 → f ≡ front p.rest → f.count ≤ length p.rest → is_last f.form ≡ true → length (tokens p) ≡ 1
+peeked_last p f none is within last =
+    let at : Place = record { line = p.line; column = p.column } in
+    let all : tokens p ≡ from_token (placed (front p.rest) at p.rest) (tokens (moved (front p.rest).count p)) = lex-token p.line p.column p.rest none (subst (λ (g : Front). g.count ≤ length p.rest) is within) in
+    let last_front : is_last (front p.rest).form ≡ true = ap (λ (g : Front). is_last g.form) (sym is) ∙ last in
+    ap length all ∙ ap (λ b. length (placed (front p.rest) at p.rest ∷ cond b [] (tokens (moved (front p.rest).count p)))) last_front
+
+then_some : (n : ℕ) (t : TokenView) (rest : ℕ → List TokenView) → 1 ≤ length (then_rest n t rest)
+then_some zero t rest = omega arith
+then_some (suc m) t rest = omega arith
+
+shown_some : (n : ℕ) (f : Front) (at : Place) (text : List ℕ) (rest : ℕ → List TokenView) → ((m : ℕ) → 1 ≤ length (rest m)) → 1 ≤ length (shown n f at text rest)
+shown_some zero f at text rest h = then_some f.count (placed f at text) rest
+shown_some (suc m) f at text rest h = h m
+
+lex_some : (k : ℕ) (at : Place) (text : List ℕ) → 1 ≤ length (lex k at text)
+unfolding lex
+lex_some k at [] = omega arith
+lex_some (suc k) at (b ∷ rest) = lex_some k (after b at) rest
+lex_some zero at (b ∷ rest) = shown_some (blank_length (b ∷ rest)) (front (b ∷ rest)) at (b ∷ rest) (λ more. lex more (after b at) rest) (λ m. lex_some m (after b at) rest)
+
+-- there is always a token, if only the missing one
+pub tokens_some : (p : Position) → 1 ≤ length (tokens p)
+tokens_some p = lex_some 0 (record { line = p.line; column = p.column }) p.rest

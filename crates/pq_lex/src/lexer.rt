@@ -1,5 +1,5 @@
-ghost use Rattle.std.specs.Prelude.{◌≡◌, ℕ, ◌+◌, ◌<◌, ◌≤◌, [], ◌∷◌, length, drop};
-ghost use Rattle.pq_lex.specs.Token.{seen};
+ghost use Rattle.std.specs.Prelude.{◌≡◌, true, ℕ, ◌+◌, ◌<◌, ◌≤◌, [], ◌∷◌, length, drop};
+ghost use Rattle.pq_lex.specs.Token.{seen, is_last};
 ghost use Rattle.pq_lex.specs.Front.{blank_length};
 ghost use Rattle.pq_lex.specs.Lex.{Position, tokens, moved, next_line, tokens_of, from_token, first_form};
 
@@ -119,6 +119,7 @@ impl<'t> Lexer<'t> {
     pub fn peek(&mut self) -> Form
         ensures same { tokens self.new ≡ tokens self.old }
         ensures form { result ≡ first_form (tokens self.new) }
+        ensures last { is_last result ≡ true → length (tokens self.new) ≡ 1 }
     {
         self.skip_blanks();
         let (form, _) = token_front(self.rest);

@@ -1,5 +1,5 @@
 -- Looking a register up, one after another.
-use Rattle.std.proofs.Common.{◌≡◌, ℕ, suc, ◌+◌, ◌<◌, ◌≤◌, Bool, true, false, cond, List, [], ◌∷◌, length, drop, get_or, map, bytes_eq, Option, Some, None, refl, sym, ap, ◌∙◌, subst, arith, add-one, drop-cons}
+use Rattle.std.proofs.Common.{◌≡◌, ℕ, suc, ◌+◌, ◌<◌, ◌≤◌, Bool, true, false, cond, List, [], ◌∷◌, ◌++◌, length, drop, get_or, map, bytes_eq, Option, Some, None, refl, sym, ap, ◌∙◌, subst, arith, add-one, drop-cons}
 use Rattle.std.specs.List.{AllByRecursion}
 use Rattle.pq_text.specs.Program.{RegisterView, places_of}
 use Rattle.pq_read.specs.declared.argument.Span.{Span}
@@ -7,8 +7,9 @@ use Rattle.pq_read.specs.declared.program.Register.{Register}
 use Rattle.pq_read.specs.Environment.{span_from, register_view}
 use Rattle.pq_read.specs.Registers.{IsKept, AreRegisters, IsSpan}
 use Rattle.pq_read.specs.Words.{is_name}
+use Rattle.pq_read.proofs.Counts.{places_of-append}
 use Rattle.std.proofs.lemmas.Slice.Eq.{bytes_eq-Decides}
-use Rattle.std.proofs.lemmas.List.{get_or-map, length-map}
+use Rattle.std.proofs.lemmas.List.{get_or-map, length-map, map_push}
 
 -- the registers from the place i on begin with that one
 pub from_here : (regs : List RegisterView) (i : ℕ) (d : RegisterView) → i < length regs → drop i regs ≡ get_or regs i d ∷ drop (i + 1) regs
@@ -61,3 +62,15 @@ item_here items i r h is =
     let n : i < length (map register_view items) = rw length-map h in
     from_here (map register_view items) i (register_view r) n
     ∙ ap (λ x. x ∷ drop (i + 1) (map register_view items)) (get_or-map register_view items i r (register_view r) h ∙ ap register_view (sym is))
+
+each_push : (P : RegisterView → Type 0) (xs : List RegisterView) (y : RegisterView) → AllByRecursion P xs → P y → AllByRecursion P (xs ++ y ∷ [])
+each_push P [] y h p = (p, tt)
+each_push P (x ∷ xs) y h p = (h.0, each_push P xs y h.1 p)
+
+pub regs_with : (items new : List Register) (r : Register) (total : ℕ) → AreRegisters total (map register_view items) → new ≡ items ++ r ∷ []
+    → IsKept (register_view r) → total + r.size ≤ 4096 → AreRegisters (total + r.size) (map register_view new)
+regs_with items new r total old is kept room =
+    let e : map register_view new ≡ map register_view items ++ register_view r ∷ [] = ap (map register_view) is ∙ map_push register_view items r in
+    let n : places_of (map register_view items ++ register_view r ∷ []) ≡ places_of (map register_view items) + (r.size + 0) = places_of-append (map register_view items) (register_view r ∷ []) in
+    let c : total ≡ places_of (map register_view items) = old.counted in
+    rw e (record { counted = omega arith; within = room; each = each_push IsKept (map register_view items) (register_view r) old.each kept })

@@ -3,3 +3,7 @@ pub mod Values
 pub mod Names
 pub mod Finds
 pub mod Meets
+pub mod Counts
+pub mod Sizes
+pub mod Barriers
+pub mod Pieces

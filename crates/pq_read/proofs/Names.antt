@@ -1,11 +1,14 @@
 -- Names.
-use Rattle.std.proofs.Common.{◌≡◌, ℕ, ◌≤◌, Bool, true, false, ◌&&◌, not, List, All, Contains, Decides, get_or, bytes_eq, refl, sym, ap, ◌∙◌, arith}
+use Rattle.std.proofs.Common.{◌≡◌, ℕ, ◌<◌, ◌≤◌, Bool, true, false, ◌&&◌, not, List, All, Contains, Decides, get_or, length, inl, inr, bytes_eq, refl, sym, ap, ◌∙◌, arith}
 use Rattle.std.specs.List.{list_all, list_any}
 use Rattle.std.specs.Char.{is_ascii_lowercase, IsAsciiLowercase, is_ascii_digit}
-use Rattle.std.proofs.lemmas.Bool.{false≢true}
+use Rattle.std.proofs.lemmas.Bool.{false≢true, cases_lt}
+use Rattle.std.proofs.lemmas.List.{get_or_past}
 use Rattle.std.proofs.lemmas.Bool.Decides.{nat_tests}
 use Rattle.std.proofs.lemmas.List.Sums.{AllPass-from_list_all, list_all-from_AllPass}
 use Rattle.std.proofs.lemmas.List.Elements.{All-weaker}
+use Rattle.std.specs.Str.{IsUtf8}
+use Rattle.std.proofs.lemmas.Str.{IsUtf8-from_ascii}
 use Rattle.pq_text.specs.Name.{IsNameByte, IsLawfulName, reserved_words}
 use Rattle.pq_text.proofs.Names.{list_any_decides}
 use Rattle.pq_read.specs.Words.{is_name_byte, is_name}
@@ -70,3 +73,13 @@ digit_high c h = grind (arith, nat_tests)
 
 pub digit_range : (c : ℕ) → is_ascii_digit c ≡ true → (48 ≤ c) × (c ≤ 57)
 digit_range c h = (digit_low c h, digit_high c h)
+
+name_byte_small : (c : ℕ) → IsNameByte c → c < 128
+name_byte_small c h = grind (arith, nat_tests)
+
+pub name_is_ascii : (w : List ℕ) → is_name w ≡ true → IsUtf8 w
+name_is_ascii w h =
+    IsUtf8-from_ascii w (λ i. elim (cases_lt i (length w)) [
+      | inl lt ↦ name_byte_small (get_or w i 0) ((name_is_lawful w h).bytes i 0 lt)
+      | inr le ↦ let past : get_or w i 0 ≡ 0 = get_or_past w i 0 le in omega arith
+    ])

@@ -1,13 +1,16 @@
 -- One token of a piece.
-use Rattle.std.proofs.Common.{◌≡◌, ℕ, Bool, true, false, cond, eqb, List, [], ◌∷◌, Result, Ok, Err, refl, sym, ap, ◌∙◌, subst, arith}
+use Rattle.std.proofs.Common.{◌≡◌, ℕ, Bool, true, false, cond, eqb, List, [], ◌∷◌, Result, Ok, Err, if◌then◌else◌, refl, sym, ap, ◌∙◌, subst, arith}
 use borrow.Author.Tests.{eqb-true, eq-eqb}
 use Rattle.pq_lex.specs.declared.token.Form.{Form}
-use Rattle.pq_lex.specs.declared.token.Form.TheVariants.{Semicolon}
+use Rattle.pq_lex.specs.declared.token.Form.TheVariants.{Word, Semicolon, Malformed}
 use Rattle.pq_lex.specs.Token.{TokenView, number_of, is_last}
 use Rattle.pq_lex.specs.Lex.{from_token, first_form}
 use Rattle.pq_lex.proofs.Forms.{same_form}
 use Rattle.pq_read.specs.declared.refusal.Refusal.{Refusal}
-use Rattle.pq_read.specs.Faults.{unexpected, is_form, head, demanded}
+use Rattle.pq_read.specs.declared.refusal.Kind.TheVariants.{BadToken, NoHeader}
+use Rattle.pq_read.specs.Faults.{refused, unexpected, is_form, head, demanded}
+use Rattle.pq_read.specs.After.{begins_header, header_word}
+use Rattle.pq_read.proofs.Names.{and_both}
 use Rattle.pq_read.specs.Gives.{through, beyond, IsInside}
 
 -- the first token of a piece, and the rest of the piece
@@ -61,3 +64,24 @@ pub head-through : (ts : List TokenView) → (head (through ts)).form ≡ first_
 unfolding through
 head-through [] = refl
 head-through (t ∷ ts) = refl
+
+pub header-found : (t : TokenView) (ts more : List TokenView) → ts ≡ from_token t more → begins_header t ≡ true
+    → header_word (through ts) ≡ Ok (t, through more)
+header-found t ts more e is =
+    let inside : IsInside t.form = is_inside Word t (and_both _ _ is).0 (record { no_end = refl; no_last = refl }) in
+    ap (λ l. header_word (through l)) e
+    ∙ (ap header_word (through-inside t more inside)
+    ∙ ap (λ b. let r : Result (TokenView × List TokenView) Refusal = cond b (Ok (t, through more)) (cond (is_form Malformed t) (Err (refused BadToken t)) (Err (refused NoHeader t))) in r) is)
+
+pub header-later : (t : TokenView) (ts more : List TokenView) → ts ≡ from_token t more → begins_header t ≡ true → beyond more ≡ beyond ts
+header-later t ts more e is = beyond-found Word t ts more e (and_both _ _ is).0 (record { no_end = refl; no_last = refl })
+
+pub header-other : (t : TokenView) (ts more : List TokenView) (malformed : Bool) → ts ≡ from_token t more → begins_header t ≡ false → is_form Malformed t ≡ malformed
+    → header_word (through ts) ≡ Err (refused (if malformed then BadToken else NoHeader) t)
+unfolding through
+header-other t ts more true e is bad =
+    ap (λ l. header_word (through l)) e
+    ∙ (λ i. let r : Result (TokenView × List TokenView) Refusal = cond (is i) (Ok (t, cond (is_form Semicolon t) [] (through (cond (is_last t.form) [] more)))) (cond (bad i) (Err (refused BadToken t)) (Err (refused NoHeader t))) in r)
+header-other t ts more false e is bad =
+    ap (λ l. header_word (through l)) e
+    ∙ (λ i. let r : Result (TokenView × List TokenView) Refusal = cond (is i) (Ok (t, cond (is_form Semicolon t) [] (through (cond (is_last t.form) [] more)))) (cond (bad i) (Err (refused BadToken t)) (Err (refused NoHeader t))) in r)

@@ -7,6 +7,8 @@ pub mod Environment
 pub mod Arguments
 pub mod Registers
 pub mod Listed
+pub mod Tails
+pub mod Readers
 pub mod Expansion
 pub mod After
 pub mod Pieces

@@ -6,6 +6,8 @@ use Rattle.pq_lex.specs.Lex.{tokens_of}
 use Rattle.pq_text.specs.Program.{ProgramView}
 use Rattle.pq_read.specs.declared.refusal.Kind.{Kind}
 use Rattle.pq_read.specs.declared.refusal.Refusal.{Refusal}
+use Rattle.pq_read.specs.declared.refusal.ReadError.{ReadError}
+use Rattle.pq_read.specs.declared.refusal.ReadError.TheVariants as errors
 use Rattle.pq_read.specs.declared.program.Options.{Options}
 use Rattle.pq_read.specs.Faults.{◌>>=◌, is_form, head}
 use Rattle.pq_read.specs.Environment.{Env, start}
@@ -34,3 +36,8 @@ Reads text options p = read_of text options ≡ Ok p
 -- the text is refused for this fault
 abbrev pub Refused : List ℕ → Options → Kind → ℕ → ℕ → Type 0
 Refused text options kind line column = read_of text options ≡ Err (record { kind = kind; line = line; column = column })
+
+-- A text that isn't read is refused for its fault, unless memory ran out.
+abbrev pub IsRefusedFor : List ℕ → Options → ReadError → Type 0
+IsRefusedFor text options errors.OutOfMemory = Unit {0}
+IsRefusedFor text options (errors.Refused fault) = Refused text options fault.kind fault.line fault.column

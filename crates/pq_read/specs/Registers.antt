@@ -28,3 +28,8 @@ pub record IsArgument (a : Argument) : Type 0 where
   pub some : 1 ≤ a.count
   pub within : a.first + a.count ≤ 4096
   pub one : a.whole ≡ false → a.count ≡ 1
+
+-- a register that may join these
+pub record IsNew (regs : List RegisterView) (r : RegisterView) : Type 0 where
+  pub kept : IsKept r
+  pub room : places_of regs + r.size ≤ 4096

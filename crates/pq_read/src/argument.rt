@@ -79,13 +79,14 @@ impl Argument {
     #[inline(always)]
     pub fn place(&self, k: u32) -> u32
         requires kept { IsArgument self.now }
-        requires instance { self.now.whole ≡ true → k < self.now.count }
+        requires instance { k < 4096 }
         ensures { result ≡ place_at self.now k }
     {
         if self.whole { self.first + k } else { self.first }
     }
 
-    fn refused(&self, kind: Kind) -> ReadError
+    /// A fault of this kind at its name.
+    pub fn refused(&self, kind: Kind) -> ReadError
         ensures { result ≡ Refused (record { kind = kind; line = self.now.line; column = self.now.column }) }
     {
         ReadError::Refused(Refusal {

@@ -3,14 +3,20 @@
 #![tactic(auto)]
 
 mod argument;
+mod declaration;
 mod gate;
+mod header;
 mod name;
 mod program;
+mod reader;
 mod refusal;
 mod registers;
+mod tail;
+mod tail_statement;
 mod token;
 mod word;
 
 pub use name::Name;
 pub use program::{Options, Program, RegList, Register, TailItem, TailList};
+pub use reader::read_text;
 pub use refusal::{Kind, ReadError, Refusal};

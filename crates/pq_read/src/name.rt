@@ -1,4 +1,5 @@
-ghost use Rattle.std.specs.Prelude.{◌≡◌, IfOk};
+ghost use Rattle.std.specs.Prelude.{◌≡◌, true, IfOk};
+ghost use Rattle.pq_read.specs.Words.{is_name};
 
 use std::alloc::{AllocError, Global};
 use std::marker::Model;
@@ -31,5 +32,16 @@ impl Name {
         ensures { result.now ≡ self.now }
     {
         self.text.as_str()
+    }
+}
+
+/// The name with these bytes.
+pub fn name_of(alloc: Global, bytes: &[u8]) -> Result<Name, AllocError>
+    requires { is_name bytes.now ≡ true }
+    ensures { IfOk result (λ name. name ≡ bytes.now) }
+{
+    match str::from_utf8(bytes) {
+        Ok(text) => Name::of(alloc, text),
+        Err(_) => unreachable!(),
     }
 }

@@ -4,7 +4,7 @@ ghost use Rattle.pq_text.specs.Program.{places_of};
 ghost use Rattle.pq_read.specs.Words.{is_name as is_name_of};
 ghost use Rattle.pq_read.specs.Environment.{span_from};
 ghost use Rattle.pq_read.specs.Arguments.{register_of};
-ghost use Rattle.pq_read.specs.Registers.{IsSpan};
+ghost use Rattle.pq_read.specs.Registers.{IsSpan, IsNew};
 ghost use Rattle.pq_read.specs.Gives.{Gives};
 
 use crate::argument::Span;
@@ -16,6 +16,9 @@ use pq_lex::Token;
 use pq_text::is_lawful_name;
 use std::alloc::{AllocError, Global};
 use std::marker::Model;
+
+/// The most places of one kind.
+pub const MAX_PLACES: u32 = 4096;
 
 /// Whether a word is a name.
 pub fn is_name(word: &[u8]) -> bool
@@ -65,6 +68,25 @@ impl Registers {
         ensures within { result ≤ 4096 }
     {
         self.total
+    }
+
+    /// Appends a register.
+    pub fn push(&mut self, register: Register) -> Result<(), AllocError>
+        requires { IsNew self.old (register_view register) }
+        ensures { OnOk result (self.new ≡ self.old ++ register_view register ∷ []) }
+    {
+        let size = register.size;
+        let _ = &self.total;
+        self.list.push(register)?;
+        self.total += size;
+        Ok(())
+    }
+
+    /// The registers themselves.
+    pub fn into_list(self) -> Vec<Register>
+        ensures { map register_view result.items ≡ self }
+    {
+        self.list
     }
 
     /// The span of the register with this name.

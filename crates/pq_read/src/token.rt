@@ -1,9 +1,9 @@
-ghost use Rattle.std.specs.Prelude.{◌≡◌, ◌≤◌, ◌^◌, [], OnOk, IfOk, MatchOption, true, false, min};
+ghost use Rattle.std.specs.Prelude.{◌≡◌, ◌≤◌, ◌^◌, [], OnOk, IfOk, MatchOption, true, false, length, min};
 ghost use Rattle.std.specs.List.{list_all};
 ghost use Rattle.std.specs.Char.{is_ascii_digit};
 ghost use Rattle.std.specs.Str.Parse.{digits_value};
 ghost use Rattle.pq_lex.specs.declared.token.Form.TheVariants.{Semicolon, LeftBracket};
-ghost use Rattle.pq_lex.specs.Token.{seen};
+ghost use Rattle.pq_lex.specs.Token.{seen, is_last};
 ghost use Rattle.pq_lex.specs.Lex.{tokens};
 ghost use Rattle.pq_read.specs.declared.refusal.ReadError.TheVariants.{Refused};
 ghost use Rattle.pq_read.specs.Faults.{refused as refused_at, unexpected as unexpected_at, is_form, head, demanded, integer_at, value_of};
@@ -38,7 +38,8 @@ pub fn unexpected(token: &Token) -> ReadError
     }
 }
 
-fn has_form(token: &Token, form: Form) -> bool
+/// Whether a token has this form.
+pub fn has_form(token: &Token, form: Form) -> bool
     ensures { result ≡ is_form form (seen token.now) }
 {
     token.form.number() == form.number()
@@ -75,6 +76,7 @@ pub fn demand_end<'t>(lexer: &mut Lexer<'t>) -> Result<Token<'t>, ReadError>
 pub fn is_next(lexer: &mut Lexer, form: Form) -> bool
     ensures test { result ≡ is_form form (head (left lexer.new)) }
     ensures same { tokens lexer.new ≡ tokens lexer.old }
+    ensures last { result ≡ true → is_last form ≡ true → length (tokens lexer.new) ≡ 1 }
 {
     lexer.peek().number() == form.number()
 }

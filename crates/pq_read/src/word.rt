@@ -1,4 +1,4 @@
-ghost use Rattle.std.specs.Prelude.{◌≡◌, bytes_eq};
+ghost use Rattle.std.specs.Prelude.{◌≡◌, ◌≤◌, bytes_eq};
 ghost use Rattle.std.specs.List.{list_any};
 ghost use Rattle.pq_read.specs.Words.{coupled_gates, turning_gates, other_gates, among, or_else, included_gate, always_gate, gate_named, more_arguments, unsupported_words, other_word, first_word};
 
@@ -130,7 +130,8 @@ fn known_gate(included: bool, word: &[u8]) -> Option<GateWord>
 impl GateWord {
     /// How many arguments it takes beside the first one.
     pub fn more_arguments(self) -> u8
-        ensures { result ≡ more_arguments self }
+        ensures count { result ≡ more_arguments self }
+        ensures few { result ≤ 2 }
     {
         match self {
             GateWord::H => 0,
