@@ -18,10 +18,11 @@ use Rattle.pq_read.specs.Words.{first_word, unsupported_words}
 use Rattle.pq_read.proofs.Names.{and_both}
 use Rattle.pq_read.specs.declared.program.Options.{Options}
 use Rattle.pq_read.specs.Faults.{◌>>=◌, refused, is_form, head}
-use Rattle.pq_read.specs.Environment.{Env}
+use Rattle.pq_read.specs.Environment.{Env, start}
 use Rattle.pq_read.specs.After.{header_at, put, statement_by, statement_at, piece_at, after}
 use Rattle.pq_read.specs.Pieces.{Cut, Within, Front, Until, ends_with, ended_by, joined_to, cut}
-use Rattle.pq_read.specs.Reads.{is_done, read_pieces, read_tokens}
+use Rattle.pq_read.specs.Reads.{is_done, read_pieces, read_tokens, read_of, Reads, IsRefusedFor}
+use Rattle.pq_lex.specs.Lex.{tokens_of}
 use Rattle.pq_read.specs.Gives.{Fails, through, beyond}
 
 -- whether a `;` comes
@@ -230,12 +231,23 @@ read_done options E (t ∷ []) done one =
     (λ i. read_pieces options E (c i).pieces (c i).rest)
     ∙ ap (λ b. let r : Result ProgramView Refusal = cond b (Ok E.program) (after options E (t ∷ []) >>= λ F. Ok F.program) in r) done
 
-pub head-through_all : (ts : List TokenView) → head (through ts) ≡ head ts
+pub head_through_all : (ts : List TokenView) → head (through ts) ≡ head ts
 unfolding through
-head-through_all [] = refl
-head-through_all (t ∷ ts) = refl
+head_through_all [] = refl
+head_through_all (t ∷ ts) = refl
 
 pub read_fails : (error : ReadError) (options : Options) (E : Env) (ts : List TokenView) (total : Result ProgramView Refusal)
     → Fails error (piece_at options E (through ts)) → is_done E ts ≡ false → 1 ≤ length ts → read_tokens options E ts ≡ total → Fails error total
 read_fails errors.OutOfMemory options E ts total h open_end some so_far = tt
 read_fails (errors.Refused f) options E ts total h open_end some so_far = sym so_far ∙ read_fault options E ts f h open_end some
+
+pub refused_for : (error : ReadError) (text : List ℕ) (options : Options) (ts : List TokenView) → ts ≡ tokens_of text
+    → Fails error (read_tokens options start ts) → IsRefusedFor text options error
+unfolding read_of
+refused_for errors.OutOfMemory text options ts e h = tt
+refused_for (errors.Refused f) text options ts e h = ap (read_tokens options start) (sym e) ∙ h
+
+pub reads_for : (text : List ℕ) (options : Options) (ts : List TokenView) (p q : ProgramView) → ts ≡ tokens_of text
+    → read_tokens options start ts ≡ Ok p → q ≡ p → Reads text options q
+unfolding read_of
+reads_for text options ts p q e h same = ap (read_tokens options start) (sym e) ∙ (h ∙ ap (λ x. let r : Result ProgramView Refusal = Ok x in r) (sym same))

@@ -1,11 +1,11 @@
-ghost use Rattle.std.specs.Prelude.{◌≡◌, ◌≤◌, [], OnOk, IfOk, IfErr, length};
+ghost use Rattle.std.specs.Prelude.{◌≡◌, ◌≤◌, [], OnOk, IfOk, IfErr, true, length};
 ghost use Rattle.pq_lex.specs.Lex.{tokens};
 ghost use Rattle.pq_lex.specs.Token.{seen};
 ghost use Rattle.pq_read.specs.declared.word.FirstWord.TheVariants.{Gate as KnownGate};
 ghost use Rattle.pq_read.specs.Environment.{view, start};
 ghost use Rattle.pq_read.specs.After.{statement_by, statement_at, piece_at};
 ghost use Rattle.pq_read.specs.Readers.{env_of};
-ghost use Rattle.pq_read.specs.Reads.{read_tokens, Reads, IsRefusedFor};
+ghost use Rattle.pq_read.specs.Reads.{is_done, read_tokens, Reads, IsRefusedFor};
 ghost use Rattle.pq_read.specs.Gives.{Gives, left, later};
 
 use crate::declaration::read_declaration;
@@ -191,6 +191,17 @@ impl Reader {
     }
 }
 
+// Whether nothing is left: the header was read, and the end of the text stands next.
+#[tactic(auto, using(crate::proofs::Pieces::head_through_all))]
+fn is_done(reader: &Reader, lexer: &mut Lexer) -> bool
+    ensures test { result ≡ is_done (env_of reader.now) (tokens lexer.new) }
+    ensures same { tokens lexer.new ≡ tokens lexer.old }
+    ensures last { result ≡ true → length (tokens lexer.new) ≡ 1 }
+{
+    let ended = is_next(lexer, Form::Missing);
+    reader.header && ended
+}
+
 // The pieces of a text one after another, and its rest.
 fn read_pieces(
     alloc: Global,
@@ -202,8 +213,7 @@ fn read_pieces(
 {
     let mut reader = Reader::new(alloc);
     'pieces: loop {
-        let ended = is_next(lexer, Form::Missing);
-        if reader.header && ended {
+        if is_done(&reader, lexer) {
             return Ok(reader);
         }
         reader.piece(alloc, lexer, options)?;
