@@ -99,7 +99,7 @@ pub comma_there : (ts : List TokenView) (e : Refusal) → is_form Comma (head ts
 comma_there [] e is h = false≢true is
 comma_there (t ∷ ts) e is h =
     let ok : (let r : Result (TokenView × List TokenView) Refusal = cond (is_form Comma t) (Ok (t, ts)) (Err (unexpected t)) in r) ≡ Ok (t, ts) =
-        ap (λ b. let r : Result (TokenView × List TokenView) Refusal = cond b (Ok (t, ts)) (Err (unexpected t)) in r) is in cc
+    ap (λ b. let r : Result (TokenView × List TokenView) Refusal = cond b (Ok (t, ts)) (Err (unexpected t)) in r) is in cc
 
 -- what a barrier does with an argument
 body : List RegisterView → List ℕ → List TokenView → (Argument × List TokenView) → Result (List ℕ × List TokenView) Refusal
@@ -119,10 +119,12 @@ barrier_more regs wires (t ∷ us) x c h is next =
     let got : length (drop n (t ∷ us)) ≡ length (c.0 ∷ c.1) = ap length (sym takes.rest_is ∙ e) in
     let lt : n < length (t ∷ us) = omega arith in
     let cut : drop n (t ∷ us) ≡ get_or (t ∷ us) n t ∷ drop n us = drop-cons (t ∷ us) n t lt in
-    let gone : drop n us ≡ c.1 = tail_same (sym cut ∙ (sym takes.rest_is ∙ e)) in
-    (ap (λ r. r >>= body regs wires us) h
-     ∙ (ap (λ b. let r : Result (List ℕ × List TokenView) Refusal = cond b (barrier_wires regs more n us) (Ok (more, x.1)) in r) is
-     ∙ (skipped regs more n us (omega arith) ∙ ap (barrier_wires regs more 0) gone)), omega arith)
+    let gone : drop n us ≡ c.1 = tail_same (sym cut ∙ (sym takes.rest_is ∙ e)) in (
+      ap (λ r. r >>= body regs wires us) h
+          ∙ (ap (λ b. let r : Result (List ℕ × List TokenView) Refusal = cond b (barrier_wires regs more n us) (Ok (more, x.1)) in r) is
+          ∙ (skipped regs more n us (omega arith) ∙ ap (barrier_wires regs more 0) gone)),
+      omega arith,
+    )
   where
     tail_same : {a b : TokenView} {xs ys : List TokenView} → a ∷ xs ≡ b ∷ ys → xs ≡ ys
     tail_same h = cc

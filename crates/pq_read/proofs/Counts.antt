@@ -50,9 +50,10 @@ tail_push tail item entries measured count now old counted within told =
     let e : entries_of (tail ++ item ∷ []) ≡ entries_of tail + entries_of (item ∷ []) = entries_of-append tail (item ∷ []) in
     let c : entries ≡ entries_of tail = old.counted in
     record {
-        counted = omega arith;
-        within = within;
-        told = sym (list_any-append is_measurement tail (item ∷ []) ∙ ((λ i. sym old.told i || or_false (is_measurement item) i) ∙ told)) }
+      counted = omega arith;
+      within = within;
+      told = sym (list_any-append is_measurement tail (item ∷ []) ∙ ((λ i. sym old.told i || or_false (is_measurement item) i) ∙ told));
+    }
 
 pub tail_with : (items new : List TailItem) (item : TailItem) (entries : ℕ) (measured : Bool) (count : ℕ) (now : Bool) → IsTail entries measured (map item_view items)
     → new ≡ items ++ item ∷ [] → count ≡ entries_of (item_view item ∷ []) → entries + count ≤ 1048576 → (measured || is_measurement (item_view item)) ≡ now

@@ -43,7 +43,7 @@ is_found (r ∷ rs) first name s kept h =
     elim (bytes_eq r.name name) as (λ b. bytes_eq r.name name ≡ b → cond b (Some own) (span_from (first + r.size) rs name) ≡ Some s → IsFound s first (r ∷ rs) name) [
       | true ↦ λ is e. let same : own ≡ s = cc in
           subst (λ (t : Span). IsFound t first (r ∷ rs) name) same
-            (record { named = subst (λ n. is_name n ≡ true) ((bytes_eq-Decides r.name name).0 is) kept.0.named; some = kept.0.some; within = omega arith })
+          (record { named = subst (λ n. is_name n ≡ true) ((bytes_eq-Decides r.name name).0 is) kept.0.named; some = kept.0.some; within = omega arith })
       | false ↦ λ is e. let h : IsFound s (first + r.size) rs name = is_found rs (first + r.size) name s kept.1 e in
           record { named = h.named; some = h.some; within = omega arith }
     ] refl h

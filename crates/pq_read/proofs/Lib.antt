@@ -7,3 +7,4 @@ pub mod Counts
 pub mod Sizes
 pub mod Barriers
 pub mod Pieces
+pub mod Answers

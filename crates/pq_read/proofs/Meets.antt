@@ -32,12 +32,13 @@ any_one (suc n) test P f h = or_either (any_below n test) (test n) P (any_one n 
 pub both_whole : (n f g : ℕ) → 1 ≤ n → eqb f g ≡ any_below n (λ k. eqb (f + k) (g + k))
 both_whole n f g some =
     same_bool _ _ (λ e. any_some n (λ k. eqb (f + k) (g + k)) 0 some (let same : f ≡ g = eqb-true f g e in eq-eqb (f + 0) (g + 0) (omega arith)))
-        (any_one n (λ k. eqb (f + k) (g + k)) (eqb f g ≡ true) (λ k lt e. let same : f + k ≡ g + k = eqb-true (f + k) (g + k) e in eq-eqb f g (omega arith)))
+    (any_one n (λ k. eqb (f + k) (g + k)) (eqb f g ≡ true) (λ k lt e. let same : f + k ≡ g + k = eqb-true (f + k) (g + k) e in eq-eqb f g (omega arith)))
 
 in_range : (f w n : ℕ) → (leb f w && ltb w (f + n)) ≡ true → (f ≤ w) × (w < f + n)
 in_range f w n h = (low f w n h, high f w n h) where
   low : (f w n : ℕ) → (leb f w && ltb w (f + n)) ≡ true → f ≤ w
   low f w n h = grind (arith, nat_tests)
+
   high : (f w n : ℕ) → (leb f w && ltb w (f + n)) ≡ true → w < f + n
   high f w n h = grind (arith, nat_tests)
 
@@ -47,12 +48,12 @@ from_range f w n a b = grind (arith, nat_tests)
 pub whole_single : (n f w : ℕ) → (leb f w && ltb w (f + n)) ≡ any_below n (λ k. eqb (f + k) w)
 whole_single n f w =
     same_bool _ _ (λ e. let r = in_range f w n e in any_some n (λ k. eqb (f + k) w) (w - f) (let a : f ≤ w = r.0 in let b : w < f + n = r.1 in omega arith) (let a : f ≤ w = r.0 in eq-eqb (f + (w - f)) w (omega arith)))
-        (any_one n (λ k. eqb (f + k) w) _ (λ k lt e. let same : f + k ≡ w = eqb-true (f + k) w e in from_range f w n (omega arith) (omega arith)))
+    (any_one n (λ k. eqb (f + k) w) _ (λ k lt e. let same : f + k ≡ w = eqb-true (f + k) w e in from_range f w n (omega arith) (omega arith)))
 
 pub single_whole : (n f w : ℕ) → (leb f w && ltb w (f + n)) ≡ any_below n (λ k. eqb w (f + k))
 single_whole n f w =
     same_bool _ _ (λ e. let r = in_range f w n e in any_some n (λ k. eqb w (f + k)) (w - f) (let a : f ≤ w = r.0 in let b : w < f + n = r.1 in omega arith) (let a : f ≤ w = r.0 in eq-eqb w (f + (w - f)) (omega arith)))
-        (any_one n (λ k. eqb w (f + k)) _ (λ k lt e. let same : w ≡ f + k = eqb-true w (f + k) e in from_range f w n (omega arith) (omega arith)))
+    (any_one n (λ k. eqb w (f + k)) _ (λ k lt e. let same : w ≡ f + k = eqb-true w (f + k) e in from_range f w n (omega arith) (omega arith)))
 
 pub both_single : (n v w : ℕ) → n ≡ 1 → eqb v w ≡ any_below n (λ k. eqb v w)
 both_single n v w one = sym (ap (λ m. any_below m (λ k. eqb v w)) one)

@@ -46,16 +46,17 @@ name_is_lawful w h =
     let front = and_both _ _ h in
     let back = and_both _ _ front.1 in
     record {
-        first = lower (get_or w 0 0) front.0;
-        bytes = All-weaker (λ b. is_name_byte b ≡ true) IsNameByte name_byte w (AllPass-from_list_all is_name_byte w back.0);
-        free = λ among. not_true _ back.1 ((list_any_decides reserved_words w).1 among) }
+      first = lower (get_or w 0 0) front.0;
+      bytes = All-weaker (λ b. is_name_byte b ≡ true) IsNameByte name_byte w (AllPass-from_list_all is_name_byte w back.0);
+      free = λ among. not_true _ back.1 ((list_any_decides reserved_words w).1 among);
+    }
 
 pub lawful_is_name : (w : List ℕ) → IsLawfulName w → is_name w ≡ true
 unfolding is_name
 lawful_is_name w n =
     both_and _ _ (is_lower (get_or w 0 0) n.first)
-        (both_and _ _ (list_all-from_AllPass is_name_byte w (All-weaker IsNameByte (λ b. is_name_byte b ≡ true) is_byte w n.bytes))
-            (true_not _ (λ yes. n.free ((list_any_decides reserved_words w).0 yes))))
+    (both_and _ _ (list_all-from_AllPass is_name_byte w (All-weaker IsNameByte (λ b. is_name_byte b ≡ true) is_byte w n.bytes))
+    (true_not _ (λ yes. n.free ((list_any_decides reserved_words w).0 yes))))
 
 same_bool : (a b : Bool) → (a ≡ true → b ≡ true) → (b ≡ true → a ≡ true) → a ≡ b
 same_bool true b f g = sym (f refl)

@@ -50,12 +50,15 @@ cut-inside (t ∷ ts) =
   where
     by_end : (t : TokenView) (ts : List TokenView) → is_form Semicolon t ≡ true → cut_by true (t ∷ ts) ≡ ended_by t (cut Front ts)
     by_end t ts is = λ i. record {
-        pieces = (t ∷ cond (is i) [] (through ts)) ∷ (cut Front (cond (is i) ts (beyond ts))).pieces;
-        rest = (cut Front (cond (is i) ts (beyond ts))).rest }
+      pieces = (t ∷ cond (is i) [] (through ts)) ∷ (cut Front (cond (is i) ts (beyond ts))).pieces;
+      rest = (cut Front (cond (is i) ts (beyond ts))).rest;
+    }
+
     by_more : (b : Bool) (t : TokenView) (ts : List TokenView) → is_form Semicolon t ≡ false → cut_by b (t ∷ ts) ≡ joined_to t (cut_by b ts).pieces (cut_by b ts).rest
     by_more true t ts is = λ i. record {
-        pieces = (t ∷ cond (is i) [] (through ts)) ∷ (cut Front (cond (is i) ts (beyond ts))).pieces;
-        rest = (cut Front (cond (is i) ts (beyond ts))).rest }
+      pieces = (t ∷ cond (is i) [] (through ts)) ∷ (cut Front (cond (is i) ts (beyond ts))).pieces;
+      rest = (cut Front (cond (is i) ts (beyond ts))).rest;
+    }
     by_more false t ts is = refl
 
 unclosed-through : (ts : List TokenView) → is_closed ts ≡ false → through ts ≡ ts
@@ -121,7 +124,7 @@ unfolding piece_at statement_at header_at gate_fault
 gate_piece_of options E line column ts =
     let g : TokenView = record { form = Word; bytes = codes "gate"; line = line; column = column } in
     elim E.header as (λ b. (let r : Result (Env × List TokenView) Refusal = cond b (statement_at options E (g ∷ ts)) (put (header_at (g ∷ ts)) (λ _. record { header = true; included = E.included; program = E.program })) in r)
-        ≡ Err (cond b (refused Unsupported g) (refused NoHeader g))) [
+    ≡ Err (cond b (refused Unsupported g) (refused NoHeader g))) [
       | true ↦ ap (λ w. statement_by w options E g ts) (gate_word E.included)
       | false ↦ refl
     ]
@@ -133,7 +136,7 @@ gate_piece options E t ts is =
     let form : t.form ≡ Word = same_form t.form Word (eqb-true _ _ both.0) in
     let bytes : codes "gate" ≡ t.bytes = (bytes_eq-Decides (codes "gate") t.bytes).0 both.1 in
     let same : record { form = Word; bytes = codes "gate"; line = t.line; column = t.column } ≡ t =
-        λ i. record { form = sym form i; bytes = bytes i; line = t.line; column = t.column } in
+    λ i. record { form = sym form i; bytes = bytes i; line = t.line; column = t.column } in
     subst (λ (g : TokenView). piece_at options E (g ∷ ts) ≡ Err (gate_fault E g)) same (gate_piece_of options E t.line t.column ts)
 
 after_fault : (options : Options) (E : Env) (ts : List TokenView) (f : Refusal) → piece_at options E ts ≡ Err f → after options E ts ≡ Err f
@@ -186,14 +189,14 @@ read_on options E F (t ∷ us) more h is some =
     elim (is_gate t) as (λ b. is_gate t ≡ b → read_tokens options E (t ∷ us) ≡ read_tokens options F more) [
       | true ↦ λ gate. ok_err (F, []) (gate_fault E t) (piece_at options E (through (t ∷ us))) h (gate_piece options E t (cond (is_form Semicolon t) [] (through us)) gate)
       | false ↦ λ other. elim (is_closed (t ∷ us)) as (λ b. is_closed (t ∷ us) ≡ b → read_tokens options E (t ∷ us) ≡ read_tokens options F more) [
-          | true ↦ λ closed.
-              let c : cut Front (t ∷ us) ≡ cut_by true (t ∷ us) = cut-front t us other ∙ ap (λ b. cut_by b (t ∷ us)) closed in
-              let rest : Cut = cut Front (beyond (t ∷ us)) in
-              (λ i. read_pieces options E (c i).pieces (c i).rest)
-              ∙ (ap (λ r. (r >>= λ x. let s : Result Env Refusal = Ok x.0 in s) >>= λ G. read_pieces options G rest.pieces rest.rest) h
-              ∙ ap (read_tokens options F) (sym is))
-          | false ↦ λ open_end. absurd (none_left more (is ∙ unclosed-beyond (t ∷ us) open_end) some)
-        ] refl
+        | true ↦ λ closed.
+            let c : cut Front (t ∷ us) ≡ cut_by true (t ∷ us) = cut-front t us other ∙ ap (λ b. cut_by b (t ∷ us)) closed in
+            let rest : Cut = cut Front (beyond (t ∷ us)) in
+            (λ i. read_pieces options E (c i).pieces (c i).rest)
+            ∙ (ap (λ r. (r >>= λ x. let s : Result Env Refusal = Ok x.0 in s) >>= λ G. read_pieces options G rest.pieces rest.rest) h
+            ∙ ap (read_tokens options F) (sym is))
+        | false ↦ λ open_end. absurd (none_left more (is ∙ unclosed-beyond (t ∷ us) open_end) some)
+      ] refl
     ] refl
 
 -- a piece or a rest with a fault
@@ -207,15 +210,15 @@ read_fault options E (t ∷ us) f h open_end some =
           let same : gate_fault E t ≡ f = err_same {A = Env × List TokenView} (gate_fault E t) f (sym (gate_piece options E t (cond (is_form Semicolon t) [] (through us)) gate) ∙ h) in
           gate_read options E t us gate (λ l. open_end) ∙ ap (λ g. let r : Result ProgramView Refusal = Err g in r) same
       | false ↦ λ other. elim (is_closed (t ∷ us)) as (λ b. is_closed (t ∷ us) ≡ b → read_tokens options E (t ∷ us) ≡ Err f) [
-          | true ↦ λ closed.
-              let c : cut Front (t ∷ us) ≡ cut_by true (t ∷ us) = cut-front t us other ∙ ap (λ b. cut_by b (t ∷ us)) closed in
-              let rest : Cut = cut Front (beyond (t ∷ us)) in
-              (λ i. read_pieces options E (c i).pieces (c i).rest) ∙ first_fault options E (through (t ∷ us)) rest.pieces rest.rest f h
-          | false ↦ λ unclosed.
-              let c : cut Front (t ∷ us) ≡ cut_by false (t ∷ us) = cut-front t us other ∙ ap (λ b. cut_by b (t ∷ us)) unclosed in
-              (λ i. read_pieces options E (c i).pieces (c i).rest)
-              ∙ rest_fault options E (t ∷ us) f (ap (piece_at options E) (sym (unclosed-through (t ∷ us) unclosed)) ∙ h) open_end
-        ] refl
+        | true ↦ λ closed.
+            let c : cut Front (t ∷ us) ≡ cut_by true (t ∷ us) = cut-front t us other ∙ ap (λ b. cut_by b (t ∷ us)) closed in
+            let rest : Cut = cut Front (beyond (t ∷ us)) in
+            (λ i. read_pieces options E (c i).pieces (c i).rest) ∙ first_fault options E (through (t ∷ us)) rest.pieces rest.rest f h
+        | false ↦ λ unclosed.
+            let c : cut Front (t ∷ us) ≡ cut_by false (t ∷ us) = cut-front t us other ∙ ap (λ b. cut_by b (t ∷ us)) unclosed in
+            (λ i. read_pieces options E (c i).pieces (c i).rest)
+            ∙ rest_fault options E (t ∷ us) f (ap (piece_at options E) (sym (unclosed-through (t ∷ us) unclosed)) ∙ h) open_end
+      ] refl
     ] refl
 
 -- the end of the text, where nothing is left

@@ -18,7 +18,7 @@ ne_false a b h = grind (arith, nat_tests)
 
 choose : (zero_test many_test : Bool) (z m : Bool) (too_many : Kind) (t : TokenView) → zero_test ≡ z → many_test ≡ m
     → (let r : Result ℕ Refusal = cond zero_test (Err (refused BadSize t)) (cond many_test (Err (refused too_many t)) (Ok (value_of t))) in r)
-        ≡ cond z (Err (refused BadSize t)) (cond m (Err (refused too_many t)) (Ok (value_of t)))
+    ≡ cond z (Err (refused BadSize t)) (cond m (Err (refused too_many t)) (Ok (value_of t)))
 choose zero_test many_test z m too_many t p q = λ i. cond (p i) (Err (refused BadSize t)) (cond (q i) (Err (refused too_many t)) (Ok (value_of t)))
 
 pub size_zero : (too_many : Kind) (regs : List RegisterView) (t : TokenView) (size : ℕ) → size ≡ min (value_of t) 1000000 → size ≡ 0

@@ -1,6 +1,7 @@
 pub use Rattle.pq_text.specs.Program
 pub use Rattle.pq_text.specs.WellFormed
 pub mod Lists
+pub mod Kinds
 pub mod Faults
 pub mod Words
 pub mod Environment

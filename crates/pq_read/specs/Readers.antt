@@ -5,6 +5,7 @@ use Rattle.pq_read.specs.Environment.{Env}
 
 abbrev pub env_of : Reader → Env
 env_of r = record {
-    header = r.header;
-    included = r.included;
-    program = record { qregs = r.quantum; cregs = r.classical; gates = r.gates.items; tail = r.tail } }
+  header = r.header;
+  included = r.included;
+  program = record { qregs = r.quantum; cregs = r.classical; gates = r.gates.items; tail = r.tail };
+}

@@ -1,5 +1,5 @@
 -- Which program a text stands for, or its first fault.
-use Rattle.std.specs.Prelude.{◌≡◌, ℕ, Bool, true, false, ◌&&◌, List, [], ◌∷◌, Result, Ok, Err, if◌then◌else◌}
+use Rattle.std.specs.Prelude.{◌≡◌, ◌⊎◌, ℕ, Bool, true, false, ◌&&◌, List, [], ◌∷◌, Result, Ok, Err, if◌then◌else◌}
 use Rattle.pq_lex.specs.declared.token.Form.TheVariants.{Missing}
 use Rattle.pq_lex.specs.Token.{TokenView}
 use Rattle.pq_lex.specs.Lex.{tokens_of}
@@ -41,3 +41,10 @@ Refused text options kind line column = read_of text options ≡ Err (record { k
 abbrev pub IsRefusedFor : List ℕ → Options → ReadError → Type 0
 IsRefusedFor text options errors.OutOfMemory = Unit {0}
 IsRefusedFor text options (errors.Refused fault) = Refused text options fault.kind fault.line fault.column
+
+-- There is a program or a fault, only one of them, and never both.
+pub record HasOneAnswer (text : List ℕ) (options : Options) : Type 0 where
+  pub some : ((p : ProgramView) × Reads text options p) ⊎ ((fault : Refusal) × Refused text options fault.kind fault.line fault.column)
+  pub one_program : (p q : ProgramView) → Reads text options p → Reads text options q → p ≡ q
+  pub one_fault : (fault other : Refusal) → Refused text options fault.kind fault.line fault.column → Refused text options other.kind other.line other.column → fault ≡ other
+  pub not_both : (p : ProgramView) (fault : Refusal) → Reads text options p → Refused text options fault.kind fault.line fault.column → ⊥

@@ -82,7 +82,11 @@ impl Argument {
         requires instance { k < 4096 }
         ensures { result ≡ place_at self.now k }
     {
-        if self.whole { self.first + k } else { self.first }
+        if self.whole {
+            self.first + k
+        } else {
+            self.first
+        }
     }
 
     /// A fault of this kind at its name.

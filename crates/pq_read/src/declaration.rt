@@ -28,11 +28,7 @@ fn has_register(quantum: &Registers, classical: &Registers, name: &[u8]) -> bool
 }
 
 // The name of a new register.
-fn check_name(
-    quantum: &Registers,
-    classical: &Registers,
-    token: &Token,
-) -> Result<(), ReadError>
+fn check_name(quantum: &Registers, classical: &Registers, token: &Token) -> Result<(), ReadError>
     ensures read { Gives (λ _. token.now.bytes.now) result (new_name quantum.now classical.now (seen token.now)) }
     ensures named { OnOk result (is_name_of token.now.bytes.now ≡ true) }
 {

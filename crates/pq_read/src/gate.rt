@@ -77,9 +77,7 @@ impl Arguments {
     {
         match self {
             Arguments::One(a) => a.count,
-            Arguments::Two(a, b) => {
-                if a.whole { a.count } else { b.count }
-            }
+            Arguments::Two(a, b) => { if a.whole { a.count } else { b.count } }
             Arguments::Three(a, b, c) => {
                 if a.whole {
                     a.count

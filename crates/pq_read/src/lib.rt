@@ -6,6 +6,7 @@ mod argument;
 mod declaration;
 mod gate;
 mod header;
+mod laws;
 mod name;
 mod program;
 mod reader;
@@ -16,7 +17,11 @@ mod tail_statement;
 mod token;
 mod word;
 
+pub use laws::texts_have_one_answer;
 pub use name::Name;
 pub use program::{Options, Program, RegList, Register, TailItem, TailList};
 pub use reader::read_text;
 pub use refusal::{Kind, ReadError, Refusal};
+
+#[cfg(test)]
+mod tests;

@@ -203,11 +203,7 @@ fn is_done(reader: &Reader, lexer: &mut Lexer) -> bool
 }
 
 // The pieces of a text one after another, and its rest.
-fn read_pieces(
-    alloc: Global,
-    lexer: &mut Lexer,
-    options: Options,
-) -> Result<Reader, ReadError>
+fn read_pieces(alloc: Global, lexer: &mut Lexer, options: Options) -> Result<Reader, ReadError>
     ensures read { Gives (λ r. (env_of r).program) result (read_tokens options start (tokens lexer.old)) }
     ensures within { IfOk result (λ r. length r.gates.items ≤ MAX_GATES) }
 {

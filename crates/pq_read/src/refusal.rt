@@ -1,4 +1,5 @@
 ghost use Rattle.std.specs.Prelude.{◌≡◌};
+ghost use Rattle.pq_read.specs.Kinds.{number_of};
 ghost use Rattle.pq_read.specs.declared.refusal.ReadError.TheVariants.{OutOfMemory};
 
 use std::alloc::{AllocError, AllocFailed};
@@ -49,6 +50,15 @@ pub enum Kind {
 
     TailTooLong = 17,
     NameTooLong = 18,
+}
+
+impl Kind {
+    /// Its number.
+    pub fn number(self) -> u8
+        ensures { result ≡ number_of self }
+    {
+        self as u8
+    }
 }
 
 /// The first fault of a text: its kind, and the line and the column where it stands, both counted

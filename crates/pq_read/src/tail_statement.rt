@@ -82,11 +82,7 @@ fn adjoin_argument(wires: &mut Vec<u64>, a: &Argument) -> Result<(), AllocError>
 }
 
 // The wires of the arguments of a barrier.
-fn read_wires(
-    alloc: Global,
-    lexer: &mut Lexer,
-    quantum: &Registers,
-) -> Result<Vec<u64>, ReadError>
+fn read_wires(alloc: Global, lexer: &mut Lexer, quantum: &Registers) -> Result<Vec<u64>, ReadError>
     ensures read { Gives (λ wires. (wires.items, left lexer.new)) result (barrier_wires quantum.now [] 0 (left lexer.old)) }
     ensures later { OnOk result (later lexer.new ≡ later lexer.old) }
 {

@@ -37,4 +37,4 @@ returns-in_err-piece-clause-read c =
     let p = err_from_is_err_and c.from_residual.result c.from_residual.ensures.1 in
     let open_end = sym c.is_done.ensures.test ∙ c.if-is_done.false in
     rw (p.1, p.2) (read_fails c.in_err-piece.field-0.0 c.args.options E (tokens c.is_done.new.lexer) (read_tokens c.args.options start (tokens c.args.lexer.now)) c.in_err-piece.ensures.read open_end
-        (tokens_some c.is_done.new.lexer) (ap (read_tokens c.args.options E) c.is_done.ensures.same ∙ c.pieces.invariant.0))
+    (tokens_some c.is_done.new.lexer) (ap (read_tokens c.args.options E) c.is_done.ensures.same ∙ c.pieces.invariant.0))

@@ -16,25 +16,26 @@ returns-in_err-a-clause-read c =
 pub returns-then-not-is_next-clause-read : goal.returns-then-not-is_next-clause-read
 returns-then-not-is_next-clause-read c =
     let is : is_form Comma (head (left c.read_argument.new.lexer)) ≡ false =
-        ap (λ l. is_form Comma (head (through l))) (sym c.is_next.ensures.same) ∙ (sym c.is_next.ensures.test ∙ c.if-not-is_next.true) in
+    ap (λ l. is_form Comma (head (through l))) (sym c.is_next.ensures.same) ∙ (sym c.is_next.ensures.test ∙ c.if-not-is_next.true) in
     let done = barrier_done c.args.quantum.now c.loop-wires.wires.items (left c.loop-wires.lexer) (c.in_ok-a.a, left c.read_argument.new.lexer) c.in_ok-a.ensures.read is in
     sym c.loop-wires.invariant.0 ∙ (done ∙ (λ i. Ok (sym c.in_ok-adjoin_argument.ensures i, through (sym c.is_next.ensures.same i))))
 
 pub loop-wires-preserved : goal.loop-wires-preserved
 loop-wires-preserved c =
     let is : is_form Comma (head (left c.read_argument.new.lexer)) ≡ true =
-        ap (λ l. is_form Comma (head (through l))) (sym c.is_next.ensures.same) ∙ (sym c.is_next.ensures.test ∙ c.if-not-is_next.false) in
+    ap (λ l. is_form Comma (head (through l))) (sym c.is_next.ensures.same) ∙ (sym c.is_next.ensures.test ∙ c.if-not-is_next.false) in
     let next : demanded Comma (left c.read_argument.new.lexer) ≡ Ok (seen c.in_ok-demand.field-0, left c.demand.new.lexer) =
-        ap (λ l. demanded Comma (through l)) (sym c.is_next.ensures.same) ∙ c.in_ok-demand.ensures.read in
-    let more = barrier_more c.args.quantum.now c.loop-wires.wires.items (left c.loop-wires.lexer) (c.in_ok-a.a, left c.read_argument.new.lexer) (seen c.in_ok-demand.field-0, left c.demand.new.lexer) c.in_ok-a.ensures.read is next in
-    (ap (λ ws. barrier_wires c.args.quantum.now ws 0 (left c.demand.new.lexer)) c.in_ok-adjoin_argument.ensures ∙ (sym more.0 ∙ c.loop-wires.invariant.0),
-     c.in_ok-demand.ensures.later ∙ (ap beyond c.is_next.ensures.same ∙ (c.in_ok-a.ensures.later ∙ c.loop-wires.invariant.1)))
+    ap (λ l. demanded Comma (through l)) (sym c.is_next.ensures.same) ∙ c.in_ok-demand.ensures.read in
+    let more = barrier_more c.args.quantum.now c.loop-wires.wires.items (left c.loop-wires.lexer) (c.in_ok-a.a, left c.read_argument.new.lexer) (seen c.in_ok-demand.field-0, left c.demand.new.lexer) c.in_ok-a.ensures.read is next in (
+      ap (λ ws. barrier_wires c.args.quantum.now ws 0 (left c.demand.new.lexer)) c.in_ok-adjoin_argument.ensures ∙ (sym more.0 ∙ c.loop-wires.invariant.0),
+      c.in_ok-demand.ensures.later ∙ (ap beyond c.is_next.ensures.same ∙ (c.in_ok-a.ensures.later ∙ c.loop-wires.invariant.1)),
+    )
 
 pub loop-wires-smaller : goal.loop-wires-smaller
 loop-wires-smaller c =
     let is : is_form Comma (head (left c.read_argument.new.lexer)) ≡ true =
-        ap (λ l. is_form Comma (head (through l))) (sym c.is_next.ensures.same) ∙ (sym c.is_next.ensures.test ∙ c.if-not-is_next.false) in
+    ap (λ l. is_form Comma (head (through l))) (sym c.is_next.ensures.same) ∙ (sym c.is_next.ensures.test ∙ c.if-not-is_next.false) in
     let next : demanded Comma (left c.read_argument.new.lexer) ≡ Ok (seen c.in_ok-demand.field-0, left c.demand.new.lexer) =
-        ap (λ l. demanded Comma (through l)) (sym c.is_next.ensures.same) ∙ c.in_ok-demand.ensures.read in
+    ap (λ l. demanded Comma (through l)) (sym c.is_next.ensures.same) ∙ c.in_ok-demand.ensures.read in
     let more = barrier_more c.args.quantum.now c.loop-wires.wires.items (left c.loop-wires.lexer) (c.in_ok-a.a, left c.read_argument.new.lexer) (seen c.in_ok-demand.field-0, left c.demand.new.lexer) c.in_ok-a.ensures.read is next in
     more.1

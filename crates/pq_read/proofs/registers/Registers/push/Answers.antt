@@ -8,4 +8,4 @@ pub invariant_of-self-2 : goal.invariant_of-self-2
 invariant_of-self-2 c =
     let before : places_of (map register_view c.self.inside.list.items) ≡ places_of c.args.self.now = ap places_of c.self.view_is in
     regs_with c.self.inside.list.items c.push.new.self.items c.args.register c.self.inside.total c.self.invariant c.in_ok-push.ensures.items c.requires.kept
-        (omega (arith, c.self.invariant.counted, c.requires.room))
+    (omega (arith, c.self.invariant.counted, c.requires.room))

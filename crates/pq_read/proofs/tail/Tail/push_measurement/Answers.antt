@@ -11,4 +11,4 @@ invariant_of-self-2 c =
     let item : TailItem = items.Measure c.args.wire c.args.bit in
     let before : entries_of (map item_view c.self.inside.items.items) ≡ entries_of c.args.self.now = ap entries_of c.self.view_is in
     tail_with c.self.inside.items.items c.push.new.self.items item c.self.inside.entries c.self.inside.measured 1 true c.self.invariant
-        c.in_ok-push.ensures.items (omega arith) (omega (arith, c.self.invariant.counted, c.requires)) (measure_told c.self.inside.measured item refl)
+    c.in_ok-push.ensures.items (omega arith) (omega (arith, c.self.invariant.counted, c.requires)) (measure_told c.self.inside.measured item refl)
