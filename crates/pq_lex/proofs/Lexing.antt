@@ -1,11 +1,9 @@
 -- How the list of tokens goes on where a cursor goes over bytes.
-use Rattle.std.proofs.Common.{◌≡◌, ℕ, zero, suc, ◌+◌, ◌<◌, ◌≤◌, Bool, true, false, eqb, cond, List, [], ◌∷◌, length, take, drop, get_or, refl, sym, ap, ◌∙◌, subst, arith}
-use Rattle.std.proofs.lemmas.Bool.{false≢true, cases_lt, eqb-false}
+use Rattle.std.proofs.Common.{◌≡◌, ℕ, zero, suc, ◌+◌, ◌≤◌, true, false, eqb, cond, List, [], ◌∷◌, length, drop, get_or, refl, sym, ap, ◌∙◌, subst, arith}
 use borrow.Author.Tests.{eqb-true}
 use Rattle.std.proofs.Math.Dec.{eqb-suc-zero}
-use Rattle.pq_lex.specs.declared.token.Form.TheVariants.{Missing}
 use Rattle.pq_lex.specs.Token.{TokenView, is_last}
-use Rattle.pq_lex.specs.Front.{Front, fronted, blank_length, front}
+use Rattle.pq_lex.specs.Front.{Front, blank_length, front}
 use Rattle.pq_lex.specs.Lex.{Place, after, placed, then_rest, shown, lex, Position, moved, tokens, from_token, first_form}
 use Rattle.pq_lex.proofs.Plain.{Plain, IsPlain, front_is_plain, blank_is_plain}
 

@@ -1,4 +1,4 @@
-use Rattle.std.proofs.Common.{◌≤◌, length, sym, ap, ◌∙◌, subst}
+use Rattle.std.proofs.Common.{◌≤◌, length, ap, ◌∙◌, subst}
 use Rattle.pq_lex.specs.Front.{form_and_count, front}
 use Rattle.pq_lex.specs.Lex.{Position, placed}
 use Rattle.pq_lex.proofs.Lexing.{next-token}

@@ -8,12 +8,12 @@ pub returns-clause-form : goal.returns-clause-form
 returns-clause-form c =
     let found = form_and_count c.token_front-form.result in
     peeked c.skip_blanks.new.self found c.skip_blanks.ensures.none
-        (c.token_front-form.ensures.front ∙ ap (λ (p : Position). front p.rest) c.self.view_is)
-        (subst (λ (p : Position). found.count ≤ length p.rest) c.self.view_is c.token_front-form.ensures.within)
+    (c.token_front-form.ensures.front ∙ ap (λ (p : Position). front p.rest) c.self.view_is)
+    (subst (λ (p : Position). found.count ≤ length p.rest) c.self.view_is c.token_front-form.ensures.within)
 
 pub returns-clause-last : goal.returns-clause-last
 returns-clause-last c =
     let found = form_and_count c.token_front-form.result in
     peeked_last c.skip_blanks.new.self found c.skip_blanks.ensures.none
-        (c.token_front-form.ensures.front ∙ ap (λ (p : Position). front p.rest) c.self.view_is)
-        (subst (λ (p : Position). found.count ≤ length p.rest) c.self.view_is c.token_front-form.ensures.within)
+    (c.token_front-form.ensures.front ∙ ap (λ (p : Position). front p.rest) c.self.view_is)
+    (subst (λ (p : Position). found.count ≤ length p.rest) c.self.view_is c.token_front-form.ensures.within)
