@@ -3,7 +3,7 @@ use Rattle.std.proofs.Common.{◌≡◌, ◌⊎◌, ℕ, List, Result, Ok, Err, 
 use Rattle.pq_text.specs.Program.{ProgramView}
 use Rattle.pq_read.specs.declared.refusal.Refusal.{Refusal}
 use Rattle.pq_read.specs.declared.program.Options.{Options}
-use Rattle.pq_read.specs.Reads.{read_of, Reads, Refused, HasOneAnswer}
+use Rattle.pq_read.specs.Reads.{read_of, HasOneAnswer}
 
 ok_same : (p q : ProgramView) → (let r : Result ProgramView Refusal = Ok p in r) ≡ Ok q → p ≡ q
 ok_same p q h = cc

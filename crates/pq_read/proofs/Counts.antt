@@ -1,10 +1,8 @@
 -- How many items lists have that are made one part after another.
 use Rattle.std.proofs.Common.{◌≡◌, ℕ, zero, suc, ◌+◌, ◌*◌, ◌≤◌, Bool, true, false, ◌||◌, List, [], ◌∷◌, ◌++◌, length, map, refl, sym, ap, ◌∙◌, arith, length-append, append_assoc, add-one}
-use Rattle.std.specs.List.{list_any}
 use Rattle.std.proofs.lemmas.List.{map_push}
 use Rattle.std.proofs.lemmas.List.Folds.{list_any-append}
 use Rattle.pq_read.specs.declared.program.TailItem.{TailItem}
-use Rattle.pq_read.specs.declared.program.TailItem.TheVariants as items
 use Rattle.pq_read.specs.Environment.{item_view, is_measurement}
 use Rattle.pq_read.specs.Tails.{IsTail}
 use Rattle.pq_text.specs.Program.{TailView, Barrier, Measure, entries_of, RegisterView, places_of}

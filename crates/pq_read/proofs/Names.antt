@@ -1,6 +1,5 @@
 -- Names.
-use Rattle.std.proofs.Common.{◌≡◌, ℕ, ◌<◌, ◌≤◌, Bool, true, false, ◌&&◌, not, List, All, Contains, Decides, get_or, length, inl, inr, bytes_eq, refl, sym, ap, ◌∙◌, arith}
-use Rattle.std.specs.List.{list_all, list_any}
+use Rattle.std.proofs.Common.{◌≡◌, ℕ, ◌<◌, ◌≤◌, Bool, true, false, ◌&&◌, not, List, get_or, length, inl, inr, refl, sym, arith}
 use Rattle.std.specs.Char.{is_ascii_lowercase, IsAsciiLowercase, is_ascii_digit}
 use Rattle.std.proofs.lemmas.Bool.{false≢true, cases_lt}
 use Rattle.std.proofs.lemmas.List.{get_or_past}

@@ -1,6 +1,5 @@
 -- How a text is read piece by piece.
-use Rattle.std.proofs.Common.{◌≡◌, ℕ, zero, suc, ◌+◌, ◌<◌, ◌≤◌, Bool, true, false, ◌&&◌, ◌||◌, eqb, cond, List, [], ◌∷◌, length, Result, Ok, Err, codes, bytes_eq, refl, sym, ap, ◌∙◌, subst, arith, ◌⊎◌, inl, inr}
-use Rattle.std.specs.List.{list_any}
+use Rattle.std.proofs.Common.{◌≡◌, ℕ, ◌<◌, ◌≤◌, Bool, true, false, ◌&&◌, ◌||◌, eqb, cond, List, [], ◌∷◌, length, Result, Ok, Err, codes, bytes_eq, refl, sym, ap, ◌∙◌, subst, arith}
 use Rattle.std.proofs.lemmas.Bool.{false≢true}
 use Rattle.pq_lex.specs.declared.token.Form.{Form}
 use Rattle.pq_lex.specs.declared.token.Form.TheVariants.{Word, Semicolon, RightBrace, Missing}
@@ -20,7 +19,7 @@ use Rattle.pq_read.specs.declared.program.Options.{Options}
 use Rattle.pq_read.specs.Faults.{◌>>=◌, refused, is_form, head}
 use Rattle.pq_read.specs.Environment.{Env, start}
 use Rattle.pq_read.specs.After.{header_at, put, statement_by, statement_at, piece_at, after}
-use Rattle.pq_read.specs.Pieces.{Cut, Within, Front, Until, ends_with, ended_by, joined_to, cut}
+use Rattle.pq_read.specs.Pieces.{Cut, Front, Until, ends_with, ended_by, joined_to, cut}
 use Rattle.pq_read.specs.Reads.{is_done, read_pieces, read_tokens, read_of, Reads, IsRefusedFor}
 use Rattle.pq_lex.specs.Lex.{tokens_of}
 use Rattle.pq_read.specs.Gives.{Fails, through, beyond}

@@ -1,9 +1,9 @@
 -- One token of a piece.
-use Rattle.std.proofs.Common.{◌≡◌, ℕ, Bool, true, false, cond, eqb, List, [], ◌∷◌, Result, Ok, Err, if◌then◌else◌, refl, sym, ap, ◌∙◌, subst, arith}
-use borrow.Author.Tests.{eqb-true, eq-eqb}
+use Rattle.std.proofs.Common.{◌≡◌, Bool, true, false, cond, List, [], ◌∷◌, Result, Ok, Err, if◌then◌else◌, refl, sym, ap, ◌∙◌, subst}
+use borrow.Author.Tests.{eqb-true}
 use Rattle.pq_lex.specs.declared.token.Form.{Form}
 use Rattle.pq_lex.specs.declared.token.Form.TheVariants.{Word, Semicolon, Malformed}
-use Rattle.pq_lex.specs.Token.{TokenView, number_of, is_last}
+use Rattle.pq_lex.specs.Token.{TokenView, is_last}
 use Rattle.pq_lex.specs.Lex.{from_token, first_form}
 use Rattle.pq_lex.proofs.Forms.{same_form}
 use Rattle.pq_read.specs.declared.refusal.Refusal.{Refusal}

@@ -1,5 +1,5 @@
 -- What a statement adds to what has been read, or its first fault.
-use Rattle.std.specs.Prelude.{ℕ, zero, suc, ◌+◌, Bool, true, false, not, ◌&&◌, ◌||◌, ◌==◌, nat_lt, List, [], ◌∷◌, ◌++◌, length, Option, Some, None, Result, Ok, Err, codes, bytes_eq, is_some, if◌then◌else◌}
+use Rattle.std.specs.Prelude.{ℕ, zero, suc, ◌+◌, Bool, true, not, ◌&&◌, ◌||◌, ◌==◌, nat_lt, List, [], ◌∷◌, ◌++◌, length, Result, Ok, Err, codes, bytes_eq, is_some, if◌then◌else◌}
 use Rattle.std.specs.List.{list_any}
 use Rattle.pq_lex.specs.declared.token.Form.TheVariants.{Word, Number, Quoted, Semicolon, Comma, LeftBracket, RightBracket, Arrow, Malformed}
 use Rattle.pq_lex.specs.Token.{TokenView}
@@ -18,7 +18,7 @@ use Rattle.pq_read.specs.Lists.{each_below}
 use Rattle.pq_read.specs.Faults.{◌>>=◌, Reading, required, refused, unexpected, is_form, head, demanded, integer_at, value_of}
 use Rattle.pq_read.specs.Words.{is_name, more_arguments, first_word}
 use Rattle.pq_read.specs.Environment.{Env, span_from, is_measurement}
-use Rattle.pq_read.specs.Arguments.{argument_at, arguments_at, place_at}
+use Rattle.pq_read.specs.Arguments.{argument_at, arguments_at}
 use Rattle.pq_read.specs.Expansion.{gates_of}
 
 abbrev pub max_places : ℕ

@@ -1,6 +1,5 @@
 -- What has been read so far.
-use Rattle.std.specs.Prelude.{ℕ, ◌+◌, Bool, true, false, List, [], ◌∷◌, ◌++◌, map, Option, Some, None, bytes_eq, if◌then◌else◌}
-use Rattle.pq_gate.specs.declared.gate.Gate.{Gate}
+use Rattle.std.specs.Prelude.{ℕ, ◌+◌, Bool, true, false, List, [], ◌∷◌, map, Option, Some, None, bytes_eq, if◌then◌else◌}
 use Rattle.pq_text.specs.Program.{RegisterView, TailView, Barrier, Measure, ProgramView}
 use Rattle.pq_read.specs.declared.program.Register.{Register}
 use Rattle.pq_read.specs.declared.program.TailItem.{TailItem}

@@ -2,7 +2,7 @@
 use Rattle.std.specs.Prelude.{ℕ, zero, suc, List, [], ◌∷◌, if◌then◌else◌}
 use Rattle.pq_gate.specs.declared.gate.Gate.{Gate}
 use Rattle.pq_gate.specs.declared.gate.Gate.TheVariants as gates
-use Rattle.pq_gate.specs.declared.gate.Eighths.TheVariants.{T, S, Z, Sdg, Tdg}
+use Rattle.pq_gate.specs.declared.gate.Eighths.TheVariants.{T, S, Sdg, Tdg}
 use Rattle.pq_read.specs.declared.argument.Argument.{Argument}
 use Rattle.pq_read.specs.declared.word.GateWord.{GateWord}
 use Rattle.pq_read.specs.declared.word.GateWord.TheVariants.{H, X, Y, Id, Phase, Cx, Cz, Cy, Swap, Ccx}

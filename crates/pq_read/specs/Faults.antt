@@ -4,7 +4,7 @@ use Rattle.std.specs.List.{list_all}
 use Rattle.std.specs.Char.{is_ascii_digit}
 use Rattle.std.specs.Str.Parse.{digits_value}
 use Rattle.pq_lex.specs.declared.token.Form.{Form}
-use Rattle.pq_lex.specs.declared.token.Form.TheVariants.{Word, Number, Missing, Malformed}
+use Rattle.pq_lex.specs.declared.token.Form.TheVariants.{Number, Missing, Malformed}
 use Rattle.pq_lex.specs.Token.{TokenView, number_of}
 use Rattle.pq_read.specs.declared.refusal.Kind.{Kind}
 use Rattle.pq_read.specs.declared.refusal.Kind.TheVariants.{BadToken, Syntax}

@@ -1,5 +1,5 @@
 -- The arguments of a gate as a list.
-use Rattle.std.specs.Prelude.{◌≡◌, ℕ, ◌≤◌, List, [], ◌∷◌}
+use Rattle.std.specs.Prelude.{List, [], ◌∷◌}
 use Rattle.pq_read.specs.declared.argument.Argument.{Argument}
 use Rattle.pq_read.specs.declared.gate.Arguments.{Arguments}
 use Rattle.pq_read.specs.declared.gate.Arguments.TheVariants.{One, Two, Three}

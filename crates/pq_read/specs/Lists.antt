@@ -1,5 +1,5 @@
 -- Words on numbers and lists.
-use Rattle.std.specs.Prelude.{ℕ, zero, suc, Bool, true, false, ◌||◌, ◌&&◌, ◌+◌, nat_le, nat_lt, List, [], ◌∷◌, ◌++◌}
+use Rattle.std.specs.Prelude.{ℕ, zero, suc, Bool, false, ◌||◌, ◌&&◌, ◌+◌, nat_le, nat_lt, List, [], ◌++◌}
 
 -- whether some number below n passes
 abbrev pub any_below : ℕ → (ℕ → Bool) → Bool

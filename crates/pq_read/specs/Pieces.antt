@@ -1,5 +1,5 @@
 -- The tokens of a text in pieces and a rest.
-use Rattle.std.specs.Prelude.{ℕ, Bool, true, false, ◌&&◌, List, [], ◌∷◌, codes, bytes_eq, if◌then◌else◌}
+use Rattle.std.specs.Prelude.{◌&&◌, List, [], ◌∷◌, codes, bytes_eq, if◌then◌else◌}
 use Rattle.pq_lex.specs.declared.token.Form.{Form}
 use Rattle.pq_lex.specs.declared.token.Form.TheVariants.{Word, Semicolon, RightBrace}
 use Rattle.pq_lex.specs.Token.{TokenView}

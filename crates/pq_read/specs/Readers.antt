@@ -1,5 +1,4 @@
 -- What a reader has read.
-use Rattle.std.specs.Prelude.{List}
 use Rattle.pq_read.specs.declared.reader.Reader.{Reader}
 use Rattle.pq_read.specs.Environment.{Env}
 

@@ -1,5 +1,5 @@
 -- Which program a text stands for, or its first fault.
-use Rattle.std.specs.Prelude.{◌≡◌, ◌⊎◌, ℕ, Bool, true, false, ◌&&◌, List, [], ◌∷◌, Result, Ok, Err, if◌then◌else◌}
+use Rattle.std.specs.Prelude.{◌≡◌, ◌⊎◌, ℕ, Bool, ◌&&◌, List, [], ◌∷◌, Result, Ok, Err, if◌then◌else◌}
 use Rattle.pq_lex.specs.declared.token.Form.TheVariants.{Missing}
 use Rattle.pq_lex.specs.Token.{TokenView}
 use Rattle.pq_lex.specs.Lex.{tokens_of}

@@ -1,5 +1,5 @@
 -- What a tail keeps.
-use Rattle.std.specs.Prelude.{◌≡◌, ℕ, ◌≤◌, Bool, List, map}
+use Rattle.std.specs.Prelude.{◌≡◌, ℕ, ◌≤◌, Bool, List}
 use Rattle.std.specs.List.{list_any}
 use Rattle.pq_text.specs.Program.{TailView, entries_of}
 use Rattle.pq_read.specs.Environment.{is_measurement}

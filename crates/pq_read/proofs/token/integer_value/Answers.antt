@@ -1,4 +1,4 @@
-use Rattle.std.proofs.Common.{◌≡◌, ◌≤◌, ◌<◌, ◌+◌, ◌*◌, get_or, length, min, sym, ap, ◌∙◌, arith}
+use Rattle.std.proofs.Common.{◌+◌, ◌*◌, get_or, min, sym, ap, ◌∙◌}
 use Rattle.pq_read.proofs.Names.{digit_range}
 use Rattle.pq_read.proofs.Values.{value_more, all_digits_more}
 use Rattle.pq_read.proofs.token.integer_value.Goals as goal

@@ -1,6 +1,5 @@
-use Rattle.std.proofs.Common.{◌≡◌, ◌≤◌, ◌+◌, ℕ, List, Some, Option, map, length, drop, bytes_eq, sym, ap, ◌∙◌, subst, arith}
-use Rattle.pq_text.specs.Program.{places_of, RegisterView}
-use Rattle.pq_read.specs.declared.argument.Span.{Span}
+use Rattle.std.proofs.Common.{◌≡◌, ◌+◌, map, drop, bytes_eq, sym, ap, ◌∙◌, arith}
+use Rattle.pq_text.specs.Program.{places_of}
 use Rattle.pq_read.specs.Environment.{register_view, span_from}
 use Rattle.pq_read.proofs.Finds.{item_here, found_here, found_later, places_here, is_span}
 use Rattle.pq_read.proofs.registers.Registers.find.Goals as goal

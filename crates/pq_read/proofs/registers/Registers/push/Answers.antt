@@ -1,4 +1,4 @@
-use Rattle.std.proofs.Common.{◌≡◌, ℕ, ◌+◌, ◌≤◌, map, ap, arith}
+use Rattle.std.proofs.Common.{◌≡◌, map, ap, arith}
 use Rattle.pq_text.specs.Program.{places_of}
 use Rattle.pq_read.specs.Environment.{register_view}
 use Rattle.pq_read.proofs.Finds.{regs_with}

@@ -1,5 +1,5 @@
-use Rattle.std.proofs.Common.{◌≡◌, ℕ, ◌+◌, ◌≤◌, [], ◌∷◌, map, length, vec_len, refl, ap, ◌∙◌, sym, arith}
-use Rattle.pq_text.specs.Program.{TailView, Barrier, entries_of}
+use Rattle.std.proofs.Common.{◌≡◌, map, length, vec_len, refl, ap, ◌∙◌, sym, arith}
+use Rattle.pq_text.specs.Program.{entries_of}
 use Rattle.pq_read.specs.Environment.{item_view}
 use Rattle.pq_read.specs.declared.program.TailItem.{TailItem}
 use Rattle.pq_read.specs.declared.program.TailItem.TheVariants as items

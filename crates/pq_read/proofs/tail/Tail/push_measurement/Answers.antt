@@ -1,4 +1,4 @@
-use Rattle.std.proofs.Common.{◌≡◌, ℕ, ◌+◌, ◌≤◌, [], ◌∷◌, map, true, refl, ap, ◌∙◌, sym, arith}
+use Rattle.std.proofs.Common.{◌≡◌, map, true, refl, ap, arith}
 use Rattle.pq_text.specs.Program.{entries_of}
 use Rattle.pq_read.specs.Environment.{item_view}
 use Rattle.pq_read.specs.declared.program.TailItem.{TailItem}
