@@ -1,3 +1,4 @@
 pub mod ArisesLaws
+pub mod Meaning
 pub mod OneMore
 pub mod Reduced

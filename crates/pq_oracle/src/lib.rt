@@ -1,8 +1,10 @@
 //! Circuits without neighbouring equal gates.
 #![tactic(auto)]
 
-ghost use Rattle.std.specs.Prelude.{◌≡◌, ◌↔◌, ◌+◌, ◌<◌, ◌≤◌, List, [], ◌∷◌, ◌++◌, length, IfOk, IsTrue, vec_len, vec_capacity};
+ghost use Rattle.std.specs.Prelude.{◌≡◌, ◌↔◌, ℕ, ◌+◌, ◌<◌, ◌≤◌, List, [], ◌∷◌, ◌++◌, length, IfOk, IsTrue, vec_len, vec_capacity};
 ghost use Rattle.pq_gate.specs.declared.gate.Gate.{Gate};
+ghost use Rattle.pq_gate.specs.Circuit.{IsCircuit};
+ghost use Rattle.pq_gate.specs.Matrix.{Same};
 ghost use Rattle.pq_oracle.specs.Cancelled.{Cancelled, GoesInPairs, HasNoPair};
 
 use pq_gate::{Gate, GateList};
@@ -14,6 +16,9 @@ use std::alloc::{AllocError, Global};
 pub fn cancel_pairs(alloc: Global, gates: &[Gate]) -> Result<GateList, AllocError>
     requires { length gates.now ≤ 1048576 }
     ensures cancelled { IfOk result (λ list. Cancelled gates.now list.items) }
+
+    // Both have one matrix, on any number of wires that the gates are a circuit on.
+    ensures same { IfOk result (λ list. (n : ℕ) → IsCircuit n gates.now → Same n gates.now list.items 0) }
 
     // The list has no room for more.
     ensures full { IfOk result (λ list. list.room ≡ length list.items) }

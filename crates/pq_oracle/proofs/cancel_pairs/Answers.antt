@@ -1,6 +1,8 @@
-use Rattle.std.proofs.Common.{arith}
-use Rattle.std.proofs.lemmas.List.{take_more}
+use Rattle.std.proofs.Common.{◌≡◌, take, arith}
+use Rattle.std.proofs.lemmas.List.{take_all, take_more}
 use Rattle.pq_gate.specs.declared.gate.Gate.TheVariants.{H}
+use Rattle.pq_oracle.specs.Cancelled.{Arises}
+use Rattle.pq_oracle.proofs.Meaning.{Same-Arises}
 use Rattle.pq_oracle.proofs.OneMore.{Cancelled-nil, Cancelled-push}
 use Rattle.pq_oracle.proofs.cancel_pairs.Goals as goal
 
@@ -17,3 +19,9 @@ loop-gate-preserved c = record {
   fits = omega arith;
   room = cc;
 }
+
+pub returns-clause-same : goal.returns-clause-same
+returns-clause-same c =
+    let whole : take c.loop-gate.gate-index c.args.gates.now ≡ c.args.gates.now = take_all _ c.args.gates.now (omega arith) in
+    let arises : Arises c.args.gates.now c.loop-gate.kept.items = rw whole at c.loop-gate.invariant.cancelled.arises in
+    rw c.of.ensures.items (λ n is. Same-Arises n c.args.gates.now c.loop-gate.kept.items is arises)

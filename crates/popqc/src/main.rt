@@ -1,0 +1,46 @@
+//! The program: standard input is the source, standard output the sink, and standard error takes the
+//! notes.
+#![tactic(auto)]
+
+use pq_io::{ReadSource, WriteSink};
+use pq_top::{ArgumentFault, refuse_arguments, run_popqc};
+use std::io::ErrorKind;
+use std::process::ExitCode;
+use std::{env, io};
+
+fn main(rt: HostRuntime) -> ExitCode {
+    let mut notes = WriteSink::new(rt.stderr());
+    let status = match words(&rt) {
+        Ok(words) => {
+            let mut source = ReadSource::new(rt.stdin());
+            let mut sink = WriteSink::new(rt.stdout());
+            run_popqc(
+                &rt,
+                rt.alloc(),
+                words.as_slice(),
+                &mut source,
+                &mut sink,
+                &mut notes,
+            )
+        }
+        Err(fault) => refuse_arguments(&mut notes, fault),
+    };
+    ExitCode::from(status)
+}
+
+// The words after the program's name.
+fn words(rt: &HostRuntime) -> Result<Vec<String>, ArgumentFault> {
+    let arguments = env::args(rt).map_err(|error| fault_of(&error))?;
+    arguments
+        .skip(1)
+        .collect(rt.alloc())
+        .map_err(|_| ArgumentFault::OutOfMemory)
+}
+
+// Why the arguments can't be had.
+fn fault_of(error: &io::Error) -> ArgumentFault {
+    match error.kind() {
+        ErrorKind::OutOfMemory => ArgumentFault::OutOfMemory,
+        _ => ArgumentFault::NotText,
+    }
+}

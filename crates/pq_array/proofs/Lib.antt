@@ -1,0 +1,9 @@
+pub mod Ranks
+pub mod Halving
+pub mod Spans
+pub mod Descent
+pub mod Climb
+pub mod CountUp
+pub mod Replacing
+pub mod Lowering
+pub mod TreeLaws

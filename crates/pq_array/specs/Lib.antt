@@ -1,0 +1,4 @@
+pub use Rattle.pq_list.specs.Roomed
+pub mod Cells
+pub mod Counts
+pub mod Tree

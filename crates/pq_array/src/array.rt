@@ -1,0 +1,170 @@
+ghost use Rattle.std.specs.Prelude.{◌≡◌, ℕ, ◌↔◌, ◌+◌, ◌<◌, ◌≤◌, Some, None, length, map, slice_index, slice_index_or, slice_get, IsNone, IfOk, IfSome, All};
+ghost use Rattle.std.specs.List.Sorted.{IsStrictlyIncreasing};
+ghost use Rattle.pq_array.specs.Cells.{live, rank, spliced, IsLive, IsLiveRun, Replaces};
+
+use crate::tree::{lower, tree_over};
+use pq_gate::Gate;
+use std::alloc::{AllocError, Global};
+use std::marker::Model;
+
+/// Cells that each hold a gate, or are a tombstone where a gate was taken out. Contracts see the list
+/// of cells, and its live gates: those that are left, in order of place. A place is the number of a
+/// cell, counted from 0; the number of cells stands for the end. Only `open` takes memory.
+#[derive(Drop)]
+pub struct GateArray {
+    cells: Vec<Option<Gate>>,
+    words: Vec<u64>,
+}
+
+impl Model for GateArray {
+    ghost use Rattle.std.specs.Prelude.{List, Option};
+    ghost use Rattle.pq_gate.specs.declared.gate.Gate.{Gate};
+    ghost use Rattle.pq_array.specs.Tree.{IsTreeOf};
+
+    ghost Value = { List (Option Gate) };
+
+    ghost view = { λ a. a.cells.items };
+
+    ghost invariant = { λ a. IsTreeOf a.cells.items a.words.items };
+}
+
+impl GateArray {
+    /// The array with one live cell for each of at most 1,048,576 gates.
+    pub fn open(alloc: Global, gates: &[Gate]) -> Result<GateArray, AllocError>
+        requires { length gates.now ≤ 1048576 }
+        ensures cells { IfOk result (λ array. array ≡ map (λ gate. Some gate) gates.now) }
+        ensures live { IfOk result (λ array. live array ≡ gates.now) }
+    {
+        let cells = live_cells(alloc, gates)?;
+        let words = tree_over(alloc, &cells)?;
+        Ok(GateArray { cells, words })
+    }
+
+    /// The number of cells.
+    pub fn cells(&self) -> u64
+        ensures { result ≡ length self.now }
+    {
+        self.cells.len() as u64
+    }
+
+    /// The number of live cells.
+    pub fn live(&self) -> u64
+        ensures { result ≡ length (live self.now) }
+    {
+        self.words[1]
+    }
+
+    /// The gate at this place: None where the place is a tombstone, or isn't below `cells`.
+    pub fn gate_at(&self, place: u64) -> Option<Gate>
+        ensures { result ≡ slice_index_or self.now place None }
+    {
+        if place < self.cells() {
+            self.cells[place as usize]
+        } else {
+            None
+        }
+    }
+
+    /// The number of live cells before this place.
+    pub fn rank(&self, place: u64) -> u64
+        requires { place ≤ length self.now }
+        ensures { result ≡ rank self.now place }
+    {
+        let width = self.words.len() / 2;
+        let mut offset = place as usize;
+        if offset >= width {
+            return self.live();
+        }
+        let mut before = 0;
+        let mut node = 1;
+        let mut half = width / 2;
+        while half > 0 {
+            let left = 2 * node;
+            if offset < half {
+                node = left;
+            } else {
+                before += self.words[left];
+                node = left + 1;
+                offset -= half;
+            }
+            half /= 2;
+        }
+        before
+    }
+
+    /// The place of the live gate with this number, counted from 0.
+    pub fn select(&self, number: u64) -> Option<u64>
+        ensures none { IsNone result ↔ (length (live self.now) ≤ number) }
+        ensures live { IfSome result (IsLive self.now) }
+        ensures number { IfSome result (λ place. rank self.now place ≡ number) }
+        ensures gate { IfSome result (λ place.
+            slice_index_or self.now place None ≡ slice_get (live self.now) number) }
+    {
+        if number >= self.live() {
+            return None;
+        }
+        let width = self.words.len() / 2;
+        let mut node = 1;
+        let mut rest = number;
+        while node < width {
+            let left = 2 * node;
+            let count = self.words[left];
+            if rest < count {
+                node = left;
+            } else {
+                rest -= count;
+                node = left + 1;
+            }
+        }
+        Some((node - width) as u64)
+    }
+
+    /// The least live place that isn't before this place.
+    pub fn next_live(&self, place: u64) -> Option<u64>
+        ensures none { IsNone result ↔ ((later : ℕ) → place ≤ later → IsLive self.now later → ⊥) }
+        ensures live { IfSome result (IsLive self.now) }
+        ensures after { IfSome result (λ next. place ≤ next) }
+        ensures least { IfSome result (λ next. (later : ℕ) →
+            place ≤ later → IsLive self.now later → next ≤ later) }
+    {
+        if place < self.cells() {
+            self.select(self.rank(place))
+        } else {
+            None
+        }
+    }
+
+    /// Puts the output at the first of these places, in order, and tombstones at the others. The places
+    /// are those of live gates that are neighbours.
+    pub fn replace(&mut self, places: &[u64], output: &[Gate])
+        requires run { IsLiveRun self.old places.now }
+        requires no_longer { length output.now ≤ length places.now }
+        ensures cells { Replaces self.old self.new places.now output.now }
+        ensures live { let first = rank self.old (slice_index places.now 0) in
+            live self.new ≡ spliced (live self.old) first (first + length places.now) output.now }
+    {
+        for place in &places[output.len()..] {
+            lower(&mut self.words, *place as usize);
+        }
+        put(&mut self.cells, places, output);
+    }
+}
+
+/// One live cell for each gate.
+fn live_cells(alloc: Global, gates: &[Gate]) -> Result<Vec<Option<Gate>>, AllocError>
+    ensures { IfOk result (λ cells. cells.items ≡ map (λ gate. Some gate) gates.now) }
+{
+    gates.iter().map(|gate| Some(*gate)).collect(alloc)
+}
+
+/// Puts the output at the first of these places, in order, and tombstones at the others.
+fn put(cells: &mut [Option<Gate>], places: &[u64], output: &[Gate])
+    requires inside { All (λ place. place < length cells.old) places.now }
+    requires in_order { IsStrictlyIncreasing places.now }
+    requires no_longer { length output.now ≤ length places.now }
+    ensures { Replaces cells.old cells.new places.now output.now }
+{
+    for (number, place) in places.iter().enumerate() {
+        cells[*place as usize] = output.get(number).copied();
+    }
+}

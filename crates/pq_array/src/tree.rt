@@ -1,0 +1,61 @@
+ghost use Rattle.std.specs.Prelude.{◌≡◌, ℕ, ◌+◌, ◌*◌, ◌/◌, ◌<◌, ◌≤◌, length, IfOk, slice_index};
+ghost use Rattle.pq_array.specs.Cells.{IsLive};
+ghost use Rattle.pq_array.specs.Counts.{HalvesTo, IsLowered};
+ghost use Rattle.pq_array.specs.Tree.{IsTreeOf};
+ghost use Rattle.std.specs.Int.{IsNextPowerOfTwo};
+
+use pq_gate::Gate;
+use std::alloc::{AllocError, Global};
+
+/// The words of the tree over these cells.
+pub fn tree_over(alloc: Global, cells: &[Option<Gate>]) -> Result<Vec<u64>, AllocError>
+    requires { length cells.now ≤ 1048576 }
+    ensures { IfOk result (λ words. IsTreeOf cells.now words.items) }
+{
+    let width = cells.len().next_power_of_two();
+    let mut words = vec![in alloc; 0; 2 * width]?;
+    count_up(&mut words, cells);
+    Ok(words)
+}
+
+/// Counts the live cells below each node, from the last leaf to the root.
+fn count_up(words: &mut [u64], cells: &[Option<Gate>])
+    requires leaves { IsNextPowerOfTwo (length cells.now) (length words.old / 2) }
+    requires pairs { length words.old ≡ 2 * (length words.old / 2) }
+    requires unused { slice_index words.old 0 ≡ 0 }
+    ensures { IsTreeOf cells.now words.new }
+{
+    let width = words.len() / 2;
+    for node in (1..words.len()).rev() {
+        words[node] = if node < width {
+            words[2 * node] + words[2 * node + 1]
+        } else {
+            leaf_word(cells, node - width)
+        };
+    }
+}
+
+/// The word of the leaf of this place, which may be behind the cells.
+fn leaf_word(cells: &[Option<Gate>], place: usize) -> u64
+    ensures live { IsLive cells.now place → result ≡ 1 }
+    ensures not_live { (IsLive cells.now place → ⊥) → result ≡ 0 }
+{
+    match cells.get(place) {
+        Some(Some(_)) => 1,
+        _ => 0,
+    }
+}
+
+/// Takes one from each word on the way from the leaf of this place to the root.
+pub fn lower(words: &mut [u64], place: usize)
+    requires leaf { place < length words.old / 2 }
+    requires counted { (node : ℕ) → 1 ≤ node → HalvesTo (length words.old / 2 + place) node →
+        1 ≤ slice_index words.old node }
+    ensures { IsLowered (length words.old / 2) place words.old words.new }
+{
+    let mut node = words.len() / 2 + place;
+    while node > 0 {
+        words[node] -= 1;
+        node /= 2;
+    }
+}

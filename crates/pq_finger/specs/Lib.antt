@@ -1,0 +1,6 @@
+pub mod Gaps
+pub mod Ranks
+pub mod Selecting
+pub mod Settled
+pub mod Settling
+pub use Rattle.pq_list.specs.Roomed

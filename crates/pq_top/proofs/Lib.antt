@@ -1,0 +1,4 @@
+mod Noting
+mod Optimising
+mod Refusing
+mod Statuses

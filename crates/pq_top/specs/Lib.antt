@@ -1,0 +1,15 @@
+pub use Rattle.pq_gate.specs.Circuit
+pub use Rattle.pq_gate.specs.Matrix
+pub use Rattle.pq_gate.specs.Ring
+pub use Rattle.pq_io.specs.Faults
+pub use Rattle.pq_io.specs.Whole
+pub use Rattle.pq_text.specs.Program
+pub use Rattle.pq_text.specs.WellFormed
+pub use Rattle.pq_text.specs.Print
+pub use Rattle.pq_oracle.specs.Cancelled
+pub mod Device
+pub mod Request
+pub mod Optimised
+pub mod Notes
+pub mod Answers
+pub mod Work
