@@ -21,11 +21,11 @@ pub record Takes (n : ℕ) (ts rest : List TokenView) : Type 0 where
   pub within : n ≤ length ts
   pub rest_is : rest ≡ drop n ts
 
-bind_ok : {A B : Type 0} (r : Result A Refusal) (f : A → Result B Refusal) (y : B) → (r >>= f) ≡ Ok y → (x : A) × (r ≡ Ok x) × (f x ≡ Ok y)
+pub bind_ok : {A B : Type 0} (r : Result A Refusal) (f : A → Result B Refusal) (y : B) → (r >>= f) ≡ Ok y → (x : A) × (r ≡ Ok x) × (f x ≡ Ok y)
 bind_ok (Ok x) f y h = (x, refl, h)
 bind_ok (Err e) f y h = cc
 
-ok_same : {A : Type 0} (x y : A) → (let r : Result A Refusal = Ok x in r) ≡ Ok y → x ≡ y
+pub ok_same : {A : Type 0} (x y : A) → (let r : Result A Refusal = Ok x in r) ≡ Ok y → x ≡ y
 ok_same x y h = cc
 
 taken : (form : Form) (ts : List TokenView) (x : TokenView × List TokenView) → demanded form ts ≡ Ok x → ts ≡ x.0 ∷ x.1

@@ -8,3 +8,6 @@ pub mod Sizes
 pub mod Barriers
 pub mod Pieces
 pub mod Answers
+pub mod Circuits
+pub mod Formed
+pub mod Kept

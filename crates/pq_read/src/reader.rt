@@ -1,5 +1,6 @@
 ghost use Rattle.std.specs.Prelude.{◌≡◌, ◌≤◌, [], OnOk, IfOk, IfErr, true, length};
 ghost use Rattle.pq_lex.specs.Lex.{tokens};
+ghost use Rattle.pq_text.specs.WellFormed.{WellFormed};
 ghost use Rattle.pq_lex.specs.Token.{seen};
 ghost use Rattle.pq_read.specs.declared.word.FirstWord.TheVariants.{Gate as KnownGate};
 ghost use Rattle.pq_read.specs.Environment.{view, start};
@@ -216,11 +217,13 @@ fn read_pieces(alloc: Global, lexer: &mut Lexer, options: Options) -> Result<Rea
     }
 }
 
-/// Reads a circuit program from a text of at most 67,108,864 bytes. Where the text isn't accepted, the
-/// answer is its first fault.
+/// Reads a circuit program from a text of at most 67,108,864 bytes: the one that the text stands for,
+/// which is well formed. Where the text isn't accepted, the answer is its first fault. Want of memory may
+/// come at any moment before, and is then the answer.
 pub fn read_text(alloc: Global, text: &[u8], options: Options) -> Result<Program, ReadError>
     requires { length text.now ≤ MAX_TEXT }
     ensures read { IfOk result (λ p. Reads text.now options (view p)) }
+    ensures well_formed { IfOk result (λ p. WellFormed (view p)) }
     ensures refused { IfErr result (IsRefusedFor text.now options) }
 {
     let mut lexer = Lexer::new(text);

@@ -3,6 +3,7 @@ use Rattle.pq_lex.specs.Lex.{tokens}
 use Rattle.pq_read.specs.Environment.{view}
 use Rattle.pq_read.specs.Readers.{env_of}
 use Rattle.pq_read.proofs.Pieces.{refused_for, reads_for}
+use Rattle.pq_read.proofs.Kept.{reads_well_formed}
 use Rattle.pq_read.proofs.reader.read_text.Goals as goal
 
 pub returns-in_err-reader-clause-refused : goal.returns-in_err-reader-clause-refused
@@ -13,3 +14,8 @@ returns-in_err-reader-clause-refused c =
 pub returns-clause-read : goal.returns-clause-read
 returns-clause-read c =
     reads_for c.args.text.now c.args.options (tokens c.new-lexer.result) (env_of c.in_ok-reader.reader).program (view c.into_program.result) c.new-lexer.ensures.tokens c.in_ok-reader.ensures.read c.into_program.ensures
+
+pub returns-clause-well_formed : goal.returns-clause-well_formed
+returns-clause-well_formed c =
+    reads_well_formed c.args.text.now c.args.options (view c.into_program.result)
+    (reads_for c.args.text.now c.args.options (tokens c.new-lexer.result) (env_of c.in_ok-reader.reader).program (view c.into_program.result) c.new-lexer.ensures.tokens c.in_ok-reader.ensures.read c.into_program.ensures)
