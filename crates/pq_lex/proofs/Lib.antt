@@ -1,0 +1,3 @@
+pub mod Plain
+pub mod Lexing
+pub mod Forms

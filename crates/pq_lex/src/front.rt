@@ -1,0 +1,257 @@
+ghost use Rattle.std.specs.Prelude.{◌≡◌, ◌+◌, ◌^◌, ◌<◌, ◌≤◌, length, IsTrue};
+ghost use Rattle.std.specs.List.{position_or_len};
+ghost use Rattle.pq_lex.specs.Front.{is_outside_word, is_no_digit, is_newline, is_unquotable, blank_length, some_digits, exponent_digits, exponent_length, fraction_length, decimal_length, number_front, quoted_front, begins_with, mark_front, front, form_and_count};
+
+use crate::token::Form;
+
+// A byte that a word can't have.
+#[inline(always)]
+fn ends_word(byte: u8) -> bool
+    ensures { result ≡ is_outside_word byte }
+{
+    !byte.is_ascii_alphanumeric() && byte != b'_'
+}
+
+#[inline(always)]
+fn ends_digits(byte: u8) -> bool
+    ensures { result ≡ is_no_digit byte }
+{
+    !byte.is_ascii_digit()
+}
+
+#[inline(always)]
+fn ends_line(byte: u8) -> bool
+    ensures { result ≡ is_newline byte }
+{
+    byte == b'\n'
+}
+
+// A byte that a text between quotes can't hold.
+#[inline(always)]
+fn ends_quoted(byte: u8) -> bool
+    ensures { result ≡ is_unquotable byte }
+{
+    byte == b'\n' || byte == b'"'
+}
+
+// How many bytes at the front a word may have.
+#[inline(always)]
+fn word_bytes(text: &[u8]) -> usize
+    ensures place { result ≡ position_or_len is_outside_word text.now }
+    ensures within { result ≤ length text.now }
+{
+    for (i, byte) in text.iter().enumerate() {
+        if ends_word(*byte) {
+            return i;
+        }
+    }
+    text.len()
+}
+
+// How many digits there are at the front.
+#[inline(always)]
+fn digits(text: &[u8]) -> usize
+    ensures place { result ≡ position_or_len is_no_digit text.now }
+    ensures within { result ≤ length text.now }
+{
+    for (i, byte) in text.iter().enumerate() {
+        if ends_digits(*byte) {
+            return i;
+        }
+    }
+    text.len()
+}
+
+// How many bytes stand before the first newline, or the end.
+#[inline(never)]
+fn line_bytes(text: &[u8]) -> usize
+    ensures place { result ≡ position_or_len is_newline text.now }
+    ensures within { result ≤ length text.now }
+{
+    for (i, byte) in text.iter().enumerate() {
+        if ends_line(*byte) {
+            return i;
+        }
+    }
+    text.len()
+}
+
+// How many bytes stand before the first `"` or newline, or the end.
+#[inline(never)]
+fn quoted_bytes(text: &[u8]) -> usize
+    ensures place { result ≡ position_or_len is_unquotable text.now }
+    ensures within { result ≤ length text.now }
+{
+    for (i, byte) in text.iter().enumerate() {
+        if ends_quoted(*byte) {
+            return i;
+        }
+    }
+    text.len()
+}
+
+// The bytes before some digits and these, or 0 where there is no digit.
+#[inline(never)]
+fn some_digits_after(before: usize, text: &[u8]) -> usize
+    requires { before + length text.now < 2 ^ 64 }
+    ensures count { result ≡ some_digits before text.now }
+    ensures within { result ≤ before + length text.now }
+{
+    let count = digits(text);
+    if count == 0 { 0 } else { before + count }
+}
+
+// What follows `e`.
+#[inline(never)]
+fn exponent_rest(text: &[u8]) -> usize
+    requires { length text.now + 1 < 2 ^ 64 }
+    ensures count { result ≡ exponent_digits text.now }
+    ensures within { result ≤ length text.now + 1 }
+{
+    match text {
+        [b'+' | b'-', rest @ ..] => some_digits_after(2, rest),
+        _ => some_digits_after(1, text),
+    }
+}
+
+// How many bytes an exponent at the front has, 0 where there is none.
+#[inline(always)]
+fn exponent(text: &[u8]) -> usize
+    ensures count { result ≡ exponent_length text.now }
+    ensures within { result ≤ length text.now }
+{
+    match text {
+        [b'e' | b'E', rest @ ..] => exponent_rest(rest),
+        _ => 0,
+    }
+}
+
+// How many bytes a `.` at the front and the digits after it have, 0 where there is none.
+#[inline(always)]
+fn fraction(text: &[u8]) -> usize
+    ensures count { result ≡ fraction_length text.now }
+    ensures within { result ≤ length text.now }
+{
+    match text {
+        [b'.', rest @ ..] => 1 + digits(rest),
+        _ => 0,
+    }
+}
+
+// How many bytes a number without exponent has, 0 where there is none.
+#[inline(always)]
+fn decimal_bytes(text: &[u8]) -> usize
+    ensures count { result ≡ decimal_length text.now }
+    ensures within { result ≤ length text.now }
+{
+    let whole = digits(text);
+    let all = whole + fraction(&text[whole..]);
+    if whole == 0 && all == 1 { 0 } else { all }
+}
+
+#[inline(always)]
+fn number(text: &[u8]) -> (Form, usize)
+    ensures front { form_and_count result ≡ number_front text.now }
+    ensures within { result.1 ≤ length text.now }
+{
+    let count = decimal_bytes(text);
+    if count == 0 {
+        (Form::Malformed, 0)
+    } else {
+        (Form::Number, count + exponent(&text[count..]))
+    }
+}
+
+// A text between quotes, by what follows the first quote.
+#[inline(never)]
+fn quoted(rest: &[u8]) -> (Form, usize)
+    requires { length rest.now + 1 < 2 ^ 64 }
+    ensures front { form_and_count result ≡ quoted_front rest.now }
+    ensures within { result.1 ≤ length rest.now + 1 }
+{
+    let inside = quoted_bytes(rest);
+    match &rest[inside..] {
+        [b'"', ..] => (Form::Quoted, inside + 2),
+        _ => (Form::Malformed, 0),
+    }
+}
+
+#[inline(always)]
+fn is_next(mark: u8, rest: &[u8]) -> bool
+    ensures next { result ≡ begins_with mark rest.now }
+    ensures some { IsTrue result → 1 ≤ length rest.now }
+{
+    match rest {
+        [first, ..] => *first == mark,
+        [] => false,
+    }
+}
+
+// A mark, by its first byte and what follows that.
+#[inline(always)]
+fn mark(first: u8, rest: &[u8]) -> (Form, usize)
+    ensures front { form_and_count result ≡ mark_front first rest.now }
+    ensures within { result.1 ≤ length rest.now + 1 }
+{
+    match first {
+        b';' => (Form::Semicolon, 1),
+        b',' => (Form::Comma, 1),
+        b'(' => (Form::LeftParenthesis, 1),
+        b')' => (Form::RightParenthesis, 1),
+        b'[' => (Form::LeftBracket, 1),
+        b']' => (Form::RightBracket, 1),
+        b'{' => (Form::LeftBrace, 1),
+        b'}' => (Form::RightBrace, 1),
+        b'+' => (Form::Plus, 1),
+        b'*' => (Form::Star, 1),
+        b'/' => (Form::Slash, 1),
+        b'^' => (Form::Caret, 1),
+        b'-' => {
+            if is_next(b'>', rest) {
+                (Form::Arrow, 2)
+            } else {
+                (Form::Minus, 1)
+            }
+        }
+        b'=' => {
+            if is_next(b'=', rest) {
+                (Form::DoubleEqual, 2)
+            } else {
+                (Form::Malformed, 0)
+            }
+        }
+        _ => (Form::Malformed, 0),
+    }
+}
+
+/// The form of the token at the front of a text that nothing is skipped of, and how many bytes it
+/// has: none for the end of the text and for what is malformed.
+#[tactic(auto, unfolding(crate::specs::Front::front))]
+#[inline(always)]
+pub(crate) fn token_front(text: &[u8]) -> (Form, usize)
+    ensures front { form_and_count result ≡ front text.now }
+    ensures within { result.1 ≤ length text.now }
+{
+    match text {
+        [] => (Form::Missing, 0),
+        [first, rest @ ..] => match *first {
+            b'a'..=b'z' | b'A'..=b'Z' => (Form::Word, 1 + word_bytes(rest)),
+            b'0'..=b'9' | b'.' => number(text),
+            b'"' => quoted(rest),
+            other => mark(other, rest),
+        },
+    }
+}
+
+/// How many bytes at the front of a text are skipped as one: a separator, or a comment.
+#[inline(always)]
+pub(crate) fn blank_front(text: &[u8]) -> usize
+    ensures count { result ≡ blank_length text.now }
+    ensures within { result ≤ length text.now }
+{
+    match text {
+        [b' ' | b'\t' | b'\r' | b'\n', ..] => 1,
+        [b'/', b'/', rest @ ..] => 2 + line_bytes(rest),
+        _ => 0,
+    }
+}

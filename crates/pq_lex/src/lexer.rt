@@ -1,0 +1,128 @@
+ghost use Rattle.std.specs.Prelude.{◌≡◌, true, ℕ, ◌+◌, ◌<◌, ◌≤◌, [], ◌∷◌, length, drop};
+ghost use Rattle.pq_lex.specs.Token.{seen, is_last};
+ghost use Rattle.pq_lex.specs.Front.{blank_length};
+ghost use Rattle.pq_lex.specs.Lex.{Position, tokens, moved, next_line, tokens_of, from_token, first_form};
+
+use crate::front::{blank_front, token_front};
+use crate::token::{Form, Token};
+use std::marker::Model;
+
+/// The most bytes that a text has.
+pub const MAX_TEXT: usize = 67_108_864;
+
+/// A cursor in a text. Contracts see what is left of the text, and the place where that begins.
+#[derive(Drop)]
+pub struct Lexer<'t> {
+    rest: &'t [u8],
+    line: u32,
+    column: u32,
+}
+
+impl<'t> Model for Lexer<'t> {
+    ghost use Rattle.std.specs.Prelude.{◌+◌, ◌^◌, ◌<◌, ◌≤◌, length};
+    ghost use Rattle.pq_lex.specs.Lex.{Position};
+
+    ghost Value = { Position };
+
+    ghost view = { λ a. record { rest = a.rest.now; line = a.line; column = a.column } };
+
+    ghost invariant = { λ a. (1 ≤ a.column) × (a.line + (a.column + length a.rest.now) < 2 ^ 32) };
+}
+
+impl<'t> Lexer<'t> {
+    /// A cursor at the front of a text.
+    pub fn new(text: &'t [u8]) -> Lexer<'t>
+        requires { length text.now ≤ MAX_TEXT }
+        ensures position { result ≡ record { rest = text.entry.now; line = 1; column = 1 } }
+        ensures tokens { tokens result ≡ tokens_of text.entry.now }
+    {
+        Lexer {
+            rest: text,
+            line: 1,
+            column: 1,
+        }
+    }
+
+    // Goes over some bytes that hold no newline.
+    #[inline(always)]
+    fn advance(&mut self, count: usize)
+        requires { count ≤ length self.old.rest }
+        ensures { self.new ≡ moved count self.old }
+    {
+        let rest = self.rest;
+        self.column += count as u32;
+        self.rest = &rest[count..];
+    }
+
+    // Goes over a newline.
+    #[inline(always)]
+    fn begin_line(&mut self)
+        requires { 1 ≤ length self.old.rest }
+        ensures { self.new ≡ next_line self.old }
+    {
+        let rest = self.rest;
+        self.line += 1;
+        self.column = 1;
+        self.rest = &rest[1..];
+    }
+
+    // Goes over what is skipped as one at the front.
+    #[inline(always)]
+    fn skip_one(&mut self, count: usize)
+        requires some { 1 ≤ count }
+        requires blank { count ≡ blank_length self.old.rest }
+        requires within { count ≤ length self.old.rest }
+        ensures same { tokens self.new ≡ tokens self.old }
+        ensures less { length self.new.rest < length self.old.rest }
+    {
+        if self.rest[0] == b'\n' {
+            self.begin_line();
+        } else {
+            self.advance(count);
+        }
+    }
+
+    // Goes over all that is skipped before the next token.
+    #[inline(always)]
+    fn skip_blanks(&mut self)
+        ensures same { tokens self.new ≡ tokens self.old }
+        ensures none { blank_length self.new.rest ≡ 0 }
+    {
+        loop {
+            let count = blank_front(self.rest);
+            if count == 0 {
+                return;
+            }
+            self.skip_one(count);
+        }
+    }
+
+    /// The next token. After a missing or a malformed one there is none.
+    #[inline(always)]
+    pub fn next(&mut self) -> Token<'t>
+        ensures { tokens self.old ≡ from_token (seen result) (tokens self.new) }
+    {
+        self.skip_blanks();
+        let (form, count) = token_front(self.rest);
+        let token = Token {
+            form,
+            bytes: &self.rest[..count],
+            line: self.line,
+            column: self.column,
+        };
+        self.advance(count);
+        token
+    }
+
+    /// The form of the next token, which stays next.
+    #[inline(always)]
+    pub fn peek(&mut self) -> Form
+        ensures same { tokens self.new ≡ tokens self.old }
+        ensures form { result ≡ first_form (tokens self.new) }
+        ensures last { is_last result ≡ true → length (tokens self.new) ≡ 1 }
+    {
+        self.skip_blanks();
+        let (form, _) = token_front(self.rest);
+        form
+    }
+}

@@ -1,0 +1,13 @@
+//! The tokens of a circuit program's text, with their places. The tokens are those of OpenQASM 2.0
+//! that the accepted subset has; spaces, tabs, carriage returns, newlines and comments stand between
+//! them and are skipped.
+#![tactic(auto)]
+
+mod front;
+mod laws;
+mod lexer;
+mod token;
+
+pub use laws::{forms_have_numbers, texts_have_tokens};
+pub use lexer::{Lexer, MAX_TEXT};
+pub use token::{Form, Token};

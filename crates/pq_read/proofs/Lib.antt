@@ -1,0 +1,13 @@
+pub mod Steps
+pub mod Values
+pub mod Names
+pub mod Finds
+pub mod Meets
+pub mod Counts
+pub mod Sizes
+pub mod Barriers
+pub mod Pieces
+pub mod Answers
+pub mod Circuits
+pub mod Formed
+pub mod Kept

@@ -1,0 +1,17 @@
+pub use Rattle.pq_text.specs.Program
+pub use Rattle.pq_text.specs.WellFormed
+pub mod Lists
+pub mod Kinds
+pub mod Faults
+pub mod Words
+pub mod Environment
+pub mod Arguments
+pub mod Registers
+pub mod Listed
+pub mod Tails
+pub mod Readers
+pub mod Expansion
+pub mod After
+pub mod Pieces
+pub mod Reads
+pub mod Gives

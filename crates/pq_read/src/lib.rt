@@ -1,0 +1,27 @@
+//! The reader of circuit programs: the accepted subset of OpenQASM 2.0, and each refusal with its
+//! place.
+#![tactic(auto)]
+
+mod argument;
+mod declaration;
+mod gate;
+mod header;
+mod laws;
+mod name;
+mod program;
+mod reader;
+mod refusal;
+mod registers;
+mod tail;
+mod tail_statement;
+mod token;
+mod word;
+
+pub use laws::{programs_are_well_formed, texts_have_one_answer};
+pub use name::Name;
+pub use program::{Options, Program, RegList, Register, TailItem, TailList};
+pub use reader::read_text;
+pub use refusal::{Kind, ReadError, Refusal};
+
+#[cfg(test)]
+mod tests;

@@ -1,0 +1,209 @@
+use crate::{Name, Options, ReadError, RegList, TailList, read_text};
+use pq_lex::MAX_TEXT;
+use std::alloc::{AllocError, Global};
+
+// What a text gives: the number of the kind, the line and the column of a refusal, or 0, the number
+// of gates and the number of tail items of a program.
+fn told(alloc: Global, text: &[u8], drop_barriers: bool) -> Option<(u8, u32, u32)> {
+    if text.len() > MAX_TEXT {
+        return None;
+    }
+    match read_text(alloc, text, Options { drop_barriers }) {
+        Ok(program) => Some((
+            0,
+            (program.gates.as_slice().len() & 0xffff_ffff) as u32,
+            (program.tail.as_slice().len() & 0xffff_ffff) as u32,
+        )),
+        Err(ReadError::Refused(refusal)) => {
+            Some((refusal.kind.number(), refusal.line, refusal.column))
+        }
+        Err(ReadError::OutOfMemory) => None,
+    }
+}
+
+// The same of the two first lines, a line, and another line so many times.
+fn told_lines(
+    alloc: Global,
+    first: &str,
+    line: &str,
+    count: u32,
+) -> Result<Option<(u8, u32, u32)>, AllocError> {
+    let mut text = Vec::new(alloc);
+    text.extend_from_slice(b"OPENQASM 2.0;\ninclude \"qelib1.inc\";\n")?;
+    text.extend_from_slice(first.as_bytes())?;
+    for _ in 0..count {
+        text.extend_from_slice(line.as_bytes())?;
+    }
+    Ok(told(alloc, text.as_slice(), false))
+}
+
+// The same of the two first lines and some more.
+fn told_after(
+    alloc: Global,
+    lines: &str,
+    drop_barriers: bool,
+) -> Result<Option<(u8, u32, u32)>, AllocError> {
+    let mut text = Vec::new(alloc);
+    text.extend_from_slice(b"OPENQASM 2.0;\ninclude \"qelib1.inc\";\n")?;
+    text.extend_from_slice(lines.as_bytes())?;
+    Ok(told(alloc, text.as_slice(), drop_barriers))
+}
+
+#[test]
+fn a_text_by_hand_and_its_cuts(rt: HostRuntime) {
+    let text =
+        "OPENQASM 2.0;\ninclude \"qelib1.inc\";\nqreg q[3];\ncreg c[3];\nh q[0];\ncx q[0],q[1];\nt q[1];\ntdg q[1];\ncx q[0],q[1];\nh q;\nbarrier q;\nmeasure q -> c;\n";
+    assert_eq!(rt; told(rt.alloc(), text.as_bytes(), false), Some((0, 8, 4)));
+    for (cut, want) in [
+        ("", (1, 1, 1)),
+        ("OPENQASM 2.", (10, 1, 10)),
+        ("OPENQASM 2.0;\ninclude \"qel", (2, 2, 9)),
+        (
+            "OPENQASM 2.0;\ninclude \"qelib1.inc\";\nqreg q[3];\ncreg c[3];\nh q[0];",
+            (0, 1, 0),
+        ),
+        (
+            "OPENQASM 2.0;\ninclude \"qelib1.inc\";\nqreg q[3];\ncreg c[3];\nh q[0];\ncx q[0],q",
+            (8, 6, 9),
+        ),
+        (
+            "OPENQASM 2.0;\ninclude \"qelib1.inc\";\nqreg q[3];\ncreg c[3];\nh q[0];\ncx q[0],q[1];\nt q[1];\ntd",
+            (4, 8, 1),
+        ),
+        (
+            "OPENQASM 2.0;\ninclude \"qelib1.inc\";\nqreg q[3];\ncreg c[3];\nh q[0];\ncx q[0],q[1];\nt q[1];\ntdg q[1];\ncx q[0],q[1];\nh q;\nbarrier q;\nmeasure q -",
+            (3, 12, 11),
+        ),
+        (
+            "OPENQASM 2.0;\ninclude \"qelib1.inc\";\nqreg q[3];\ncreg c[3];\nh q[0];\ncx q[0],q[1];\nt q[1];\ntdg q[1];\ncx q[0],q[1];\nh q;\nbarrier q;\nmeasure q -> c",
+            (3, 12, 15),
+        ),
+    ] {
+        assert_eq!(rt; told(rt.alloc(), cut.as_bytes(), false), Some(want));
+    }
+}
+
+#[test]
+fn faults_stand_at_their_tokens(rt: HostRuntime) -> Result<(), AllocError> {
+    for (lines, want) in [
+        ("qreg q[2];\ncx q[0],q[0];", (8, 4, 9)),
+        ("qreg q[2];\nh q[5];", (7, 4, 5)),
+        ("qreg q[2];\nrx(0.3) q[0];", (10, 4, 1)),
+        ("qreg q[2];\nh r[0];", (5, 4, 3)),
+        ("qreg q[2];\nfoo q[0];", (4, 4, 1)),
+        ("qreg q[2];\nh q[0]", (3, 4, 7)),
+        (
+            "qreg q[1];\ncreg c[1];\nmeasure q -> c;\nh q[0];",
+            (11, 6, 1),
+        ),
+        ("qreg q[1];\nh q[0];\nbarrier q;\nh q[0];", (12, 6, 1)),
+        ("qreg a[2];\nqreg b[3];\nccx a,b[0],b;", (9, 5, 12)),
+        ("qreg q[2];\ncreg q[2];", (6, 4, 6)),
+        ("qreg a[2];\nqreg b[3];\ncx a,b;", (9, 5, 6)),
+        ("qreg q[4097];", (14, 3, 8)),
+        ("creg c[4097];", (16, 3, 8)),
+        ("qreg q[0];", (13, 3, 8)),
+        ("@", (2, 3, 1)),
+        ("qreg q[2];\nh q[18446744073709551616];", (7, 4, 5)),
+        ("qreg q[2];\ncx q[0],q@", (8, 4, 9)),
+        (
+            "qreg aaaaaaaaaaaaaaaaaaaaaaaaaaaaaaaaaaaaaaaaaaaaaaaaaaaaaaaaaaaaaaaaa[1];",
+            (18, 3, 6),
+        ),
+        (
+            "qreg aaaaaaaaaaaaaaaaaaaaaaaaaaaaaaaaaaaaaaaaaaaaaaaaaaaaaaaaaaaaaaaa[1];",
+            (0, 0, 0),
+        ),
+        (
+            "// \u{1}; any bytes\r\n\tqreg a [ 002 ] ; qreg b[2]; swap a,b;",
+            (0, 6, 0),
+        ),
+        (
+            "include \"qelib1.inc\";\nqreg t[1];\nid t;\nCX t[0],t;",
+            (8, 6, 9),
+        ),
+    ] {
+        assert_eq!(rt; told_after(rt.alloc(), lines, false)?, Some(want));
+    }
+    assert_eq!(rt;
+        told_after(rt.alloc(), "qreg q[1];\nh q[0];\nbarrier q;\nh q[0];", true)?,
+        Some((0, 2, 0))
+    );
+    assert_eq!(rt;
+        told_after(rt.alloc(), "qreg q[1];\nbarrier q;\nid q;", true)?,
+        Some((0, 0, 0))
+    );
+    Ok(())
+}
+
+#[test]
+fn each_kind_once_more(rt: HostRuntime) {
+    for (text, want) in [
+        ("openqasm 2.0;", (1, 1, 1)),
+        ("OPENQASM 2.0;\nqreg a[1];\nCX a[0] $ a[1];", (2, 3, 9)),
+        ("OPENQASM 2.0;\nqreg Q[1];", (3, 2, 6)),
+        ("OPENQASM 2.0;\nqreg q[1];\nh q;", (4, 3, 1)),
+        (
+            "OPENQASM 2.0;\nqreg q[1];\ncreg c[1];\nmeasure c -> q;",
+            (5, 4, 9),
+        ),
+        (
+            "OPENQASM 2.0;\nqreg q[1];\nqreg p[1];\nqreg q[1];",
+            (6, 4, 6),
+        ),
+        ("OPENQASM 2.0;\nqreg q[3];\nbarrier q[2],q[3];", (7, 3, 16)),
+        ("OPENQASM 2.0;\nqreg q[3];\nCX q[1],q;", (8, 3, 9)),
+        (
+            "OPENQASM 2.0;\nqreg q[3];\ncreg c[2];\nmeasure q -> c",
+            (9, 4, 14),
+        ),
+        ("OPENQASM 3.0;", (10, 1, 10)),
+        (
+            "OPENQASM 2.0;\nqreg q[2];\ncreg c[1];\nmeasure q[0]->c[0];CX q[0],q[1];",
+            (11, 4, 20),
+        ),
+        (
+            "OPENQASM 2.0;\nqreg q[2];\nbarrier q[0];\n CX q[0],q[1];",
+            (12, 4, 2),
+        ),
+        ("OPENQASM 2.0;\ncreg c[00];", (13, 2, 8)),
+        ("OPENQASM 2.0;\nqreg q[4000];\nqreg r[97];", (14, 3, 8)),
+        ("OPENQASM 2.0;\ncreg c[4096];\ncreg d[1];", (16, 3, 8)),
+    ] {
+        assert_eq!(rt; told(rt.alloc(), text.as_bytes(), false), Some(want));
+    }
+}
+
+#[test]
+fn limits_are_reached(rt: HostRuntime) -> Result<(), AllocError> {
+    let alloc = rt.alloc();
+    assert_eq!(rt;
+        told_lines(alloc, "qreg q[4096];\n", "t q;\n", 256)?,
+        Some((0, 1_048_576, 0))
+    );
+    assert_eq!(rt;
+        told_lines(alloc, "qreg q[4096];\n", "t q;\n", 257)?,
+        Some((15, 260, 4))
+    );
+    assert_eq!(rt;
+        told_lines(alloc, "qreg q[4096];\n", "barrier q;\n", 256)?,
+        Some((0, 0, 256))
+    );
+    assert_eq!(rt;
+        told_lines(alloc, "qreg q[4096];\n", "barrier q;\n", 257)?,
+        Some((17, 260, 10))
+    );
+    Ok(())
+}
+
+#[test]
+fn names_and_lists_are_made(rt: HostRuntime) -> Result<(), AllocError> {
+    assert!(rt; Name::of(rt.alloc(), "q")?.as_str() == "q");
+    let registers = RegList::with_room(rt.alloc(), 2)?;
+    assert_eq!(rt; registers.room(), 2);
+    assert!(rt; registers.as_slice().is_empty());
+    let tail = TailList::with_room(rt.alloc(), 2)?;
+    assert_eq!(rt; tail.room(), 2);
+    assert!(rt; tail.as_slice().is_empty());
+    Ok(())
+}
