@@ -1,0 +1,3 @@
+pub use Rattle.pq_list.specs.Roomed
+pub mod Renaming
+pub mod Row
