@@ -2,7 +2,12 @@ pub mod ActLaws
 pub mod BitLaws
 pub mod CircuitLaws
 pub mod EntryLaws
+pub mod ExchangeLaws
 pub mod FormLaws
+pub mod InverseLaws
+pub mod MoveLaws
 pub mod PairLaws
+pub mod PhaseLaws
+pub mod RangeLaws
 pub mod RingLaws
 pub mod SameLaws

@@ -1,6 +1,9 @@
 pub use Rattle.pq_list.specs.Roomed
 pub mod Bits
 pub mod Circuit
+pub mod Commuting
 pub mod Eighths
+pub mod Inverse
 pub mod Matrix
+pub mod Phases
 pub mod Ring

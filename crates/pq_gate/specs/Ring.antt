@@ -1,4 +1,5 @@
-use Rattle.std.specs.Prelude.{ℕ, zero, suc, Bool, cond, pos, ◌+ℤ◌, ◌-ℤ◌, neg_ℤ}
+use Rattle.std.specs.Prelude.{ℕ, zero, suc, Bool, cond, pos, ◌+ℤ◌, ◌-ℤ◌, neg_ℤ, FitsSigned}
+use Rattle.std.specs.Int.{w64}
 use Rattle.pq_gate.specs.declared.ring.Ring.{Ring}
 
 -- The ring of all a + bω + cω² + dω³ with whole numbers a, b, c, d without bounds, where ω is the
@@ -37,3 +38,10 @@ rooted (suc k) r = root (rooted k r)
 -- ω^k times r where the bit is 1, else r
 abbrev pub turned_if : Bool → ℕ → Ring → Ring
 turned_if bit k r = cond bit (turned k r) r
+
+-- each of the four numbers is one of an i64
+pub record FitsI64 (r : Ring) : Type 0 where
+  pub a : FitsSigned w64 r.a
+  pub b : FitsSigned w64 r.b
+  pub c : FitsSigned w64 r.c
+  pub d : FitsSigned w64 r.d

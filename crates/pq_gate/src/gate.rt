@@ -25,3 +25,16 @@ pub enum Gate {
     /// Negates the target where the control is 1. The two wires of a circuit's gate are different.
     Cx { control: u32, target: u32 },
 }
+
+/// What two phases on one wire come to, up to whole turns.
+#[derive(Clone, Copy, Debug, PartialEq, Eq)]
+pub enum Sum {
+    /// No turn.
+    Nothing,
+
+    /// The turn of a single gate.
+    One(Eighths),
+
+    /// A turn of 3 or of 5 eighths, which has no gate of its own.
+    Two,
+}

@@ -6,7 +6,12 @@ ghost use Rattle.std.specs.Prelude.{◌≡◌, ◌≢◌, ◌↔◌, ℕ, ◌+�
 ghost use Rattle.pq_gate.specs.declared.gate.Gate.{Gate};
 ghost use Rattle.pq_gate.specs.declared.ring.Ring.{Ring};
 ghost use Rattle.pq_gate.specs.Bits.{same_bits};
+ghost use Rattle.std.specs.List.{AllByRecursion};
+ghost use Rattle.pq_gate.specs.declared.gate.Sum.{Sum};
 ghost use Rattle.pq_gate.specs.Circuit.{IsCircuit};
+ghost use Rattle.pq_gate.specs.Commuting.{Commutes};
+ghost use Rattle.pq_gate.specs.Inverse.{inverse_of};
+ghost use Rattle.pq_gate.specs.Phases.{TurnsBy};
 ghost use Rattle.pq_gate.specs.Matrix.{Entry, Same};
 ghost use Rattle.pq_gate.specs.Ring.{nought, one, plus, root, turned, rooted};
 
@@ -34,6 +39,41 @@ pub fn pairs_do_nothing()
     ensures x { (n wire : ℕ) → wire < n → Same n (Gate.X wire ∷ Gate.X wire ∷ []) [] 0 }
     ensures cx { (n control target : ℕ) → control < n → target < n → control ≢ target →
         Same n (Gate.Cx control target ∷ Gate.Cx control target ∷ []) [] 0 }
+{}
+
+/// A gate and its inverse do nothing, in either order, and the inverse of the inverse is the gate.
+pub fn gates_have_inverses()
+    ensures behind { (n : ℕ) (g : Gate) → IsCircuit n (g ∷ []) → Same n (g ∷ inverse_of g ∷ []) [] 0 }
+    ensures before { (n : ℕ) (g : Gate) → IsCircuit n (g ∷ []) → Same n (inverse_of g ∷ g ∷ []) [] 0 }
+    ensures twice { (g : Gate) → inverse_of (inverse_of g) ≡ g }
+{}
+
+/// Whether two gates commute doesn't depend on their order.
+pub fn commuting_is_symmetric()
+    ensures { (g h : Gate) → Commutes g h → Commutes h g }
+{}
+
+/// Two commuting gates at the front of a circuit may be exchanged: no entry changes.
+pub fn commuting_gates_exchange()
+    ensures { (n : ℕ) (g h : Gate) (c : List Gate) → IsCircuit n (g ∷ h ∷ c) → Commutes g h →
+        (x y : List Bool) → Entry (g ∷ h ∷ c) x y ≡ Entry (h ∷ g ∷ c) x y }
+{}
+
+/// A gate moves past gates that it commutes with: at the front of a circuit no entry changes, and
+/// the matrix stays the same anywhere in a circuit.
+pub fn a_gate_moves_past_commuting_gates()
+    ensures entries { (n : ℕ) (g : Gate) (c b : List Gate) → IsCircuit n (g ∷ c) → AllByRecursion (Commutes g) c →
+        (x y : List Bool) → Entry (g ∷ (c ++ b)) x y ≡ Entry (c ++ (g ∷ b)) x y }
+    ensures same { (n : ℕ) (g : Gate) (c : List Gate) → IsCircuit n (g ∷ c) → AllByRecursion (Commutes g) c →
+        Same n (g ∷ c) (c ++ (g ∷ [])) 0 }
+    ensures inside { (n : ℕ) (a : List Gate) (g : Gate) (c b : List Gate) →
+        IsCircuit n a → IsCircuit n (g ∷ c) → IsCircuit n b → AllByRecursion (Commutes g) c →
+        Same n (a ++ (g ∷ (c ++ b))) (a ++ (c ++ (g ∷ b))) 0 }
+{}
+
+/// Each number of eighths has one sum of phases.
+pub fn sums_of_phases_are_determined()
+    ensures { (k : ℕ) (s t : Sum) → TurnsBy s k → TurnsBy t k → s ≡ t }
 {}
 
 /// The test of two basis states says whether they are one.
