@@ -1,1 +1,4 @@
+pub mod BoundLaws
 pub mod LiftLaws
+mod StateLaws
+
