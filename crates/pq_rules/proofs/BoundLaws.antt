@@ -72,7 +72,7 @@ pub IsWithin-turned : {limit : ℕ} {r : Ring} (k : ℕ) → IsWithin limit r �
 IsWithin-turned zero is = is
 IsWithin-turned (suc k) is = IsWithin-turn (IsWithin-turned k is)
 
-IsWithin-turned_if : {limit : ℕ} {r : Ring} (p : Bool) (k : ℕ) → IsWithin limit r → IsWithin limit (turned_if p k r)
+pub IsWithin-turned_if : {limit : ℕ} {r : Ring} (p : Bool) (k : ℕ) → IsWithin limit r → IsWithin limit (turned_if p k r)
 IsWithin-turned_if true k is = IsWithin-turned k is
 IsWithin-turned_if false k is = is
 
@@ -105,7 +105,7 @@ IsWithin-rooted j (suc k) r is =
     subst (λ (limit : ℕ). IsWithin limit (rooted (suc k) r)) (doubled (k + j) ∙ ap (λ (n : ℕ). 2 ^ n) (omega arith))
     (IsWithin-root (IsWithin-rooted j k r is))
 
-pow_grows : (j k : ℕ) → j ≤ k → 2 ^ j ≤ 2 ^ k
+pub pow_grows : (j k : ℕ) → j ≤ k → 2 ^ j ≤ 2 ^ k
 pow_grows j k below = pow_mono {i = j} {j = k} below
 
 -- so with few gates and roots all is within a small bound

@@ -1,4 +1,4 @@
 pub mod BoundLaws
+mod ColumnLaws
 pub mod LiftLaws
 mod StateLaws
-

@@ -1,6 +1,9 @@
 use Rattle.std.specs.Prelude.{ℕ, ◌<◌, ℤ, pos, ◌+ℤ◌, ◌≤ℤ◌, List, slice_index_or}
 use Rattle.pq_gate.specs.declared.ring.Ring.{Ring}
-use Rattle.pq_gate.specs.Ring.{nought}
+
+-- all four coefficients are 0
+abbrev pub zeros : Ring
+zeros = record { a = pos 0; b = pos 0; c = pos 0; d = pos 0 }
 
 -- the number is from -limit to limit
 pub record IsBetween (limit : ℕ) (z : ℤ) : Type 0 where
@@ -16,4 +19,4 @@ pub record IsWithin (limit : ℕ) (r : Ring) : Type 0 where
 
 -- so are all entries of a column of eight
 abbrev pub IsColumnWithin : ℕ → List Ring → Type 0
-IsColumnWithin limit column = (x : ℕ) → x < 8 → IsWithin limit (slice_index_or column x nought)
+IsColumnWithin limit column = (x : ℕ) → x < 8 → IsWithin limit (slice_index_or column x zeros)

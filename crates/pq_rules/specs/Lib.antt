@@ -1,6 +1,9 @@
 pub use Rattle.pq_list.specs.Roomed
+pub mod Agreement
 pub mod Bounds
 pub mod Columns
+pub mod Fault
+pub mod Pairs
 pub mod Renaming
 pub mod Row
 pub mod States

@@ -12,10 +12,6 @@ pub record RowView : Type 0 where
   pub replacement : List Gate
   pub phase : ℕ
 
--- the row on its wires with another phase
-abbrev pub with_phase : RowView → ℕ → RowView
-with_phase row k = record row { phase = k }
-
 -- some gate uses the wire
 abbrev pub Uses : List Gate → ℕ → Type 0
 Uses gates w = Any (λ gate. Touches gate w) gates
