@@ -1,140 +1,34 @@
-ghost use Rattle.std.specs.Prelude.{◌≡◌, ◌↔◌, ℕ, ◌+◌, ◌*◌, ◌/◌, ◌%◌, ◌<◌, ◌≤◌, length, IsTrue, MatchOption, MatchResult};
-ghost use Rattle.pq_gate.specs.Circuit.{IsOnWires, IsCircuit};
-ghost use Rattle.pq_gate.specs.Commuting.{Touches};
-ghost use Rattle.pq_gate.specs.Matrix.{h_count};
-ghost use Rattle.pq_rules.specs.Fault.{HasItsWires};
-ghost use Rattle.pq_rules.specs.Pairs.{IsMatrixWithin, MatchesAt, MatchesBelow, entry_in};
-ghost use Rattle.pq_gate.specs.Ring.{turned};
-ghost use Rattle.pq_rules.specs.Row.{Uses};
+ghost use Rattle.std.specs.Prelude.{◌≡◌, IfOk, IfErr};
+ghost use Rattle.pq_rules.specs.declared.row.RowFault.{RowFault};
+ghost use Rattle.pq_rules.specs.Fault.{with_phase, Comes};
+ghost use Rattle.pq_rules.specs.Row.{IsSound};
 
-use crate::column::turned_by;
-use pq_gate::{Gate, Ring};
+use crate::compare::{has_its_wires, phase_of};
+use crate::row::{RawRow, Row, RowFault};
 
-// whether the gate acts on wires below `wires`, a CX on two different ones
-fn is_on_wires(gate: Gate, wires: u8) -> bool
-    ensures { IsTrue result ↔ IsOnWires wires gate }
+/// Checks a raw row by computing the matrices of both sides. It takes no memory. The faults are tried
+/// in the order in which `RowFault` lists them; `laws::one_fault` says that at most one of them comes.
+pub fn check_row(raw: RawRow) -> Result<Row, RowFault>
+    ensures row { IfOk result (λ row. row ≡ with_phase raw row.phase) }
+    ensures sound { IfOk result (λ row. IsSound row) }
+
+    // A row is given only where no fault comes, and a fault only where it comes.
+    ensures ok { IfOk result (λ row. (fault : RowFault) → Comes raw fault → ⊥) }
+    ensures fault { IfErr result (λ fault. Comes raw fault) }
 {
-    match gate {
-        Gate::H { wire } | Gate::X { wire } | Gate::Phase { wire, .. } => wire < u32::from(wires),
-        Gate::Cx { control, target } => {
-            control < u32::from(wires) && target < u32::from(wires) && control != target
-        }
+    let pattern = raw.pattern.as_slice();
+    let replacement = raw.replacement.as_slice();
+    if !has_its_wires(raw.wires, pattern, replacement) {
+        return Err(RowFault::Wires);
     }
-}
-
-// whether all gates do
-fn are_on_wires(gates: &[Gate], wires: u8) -> bool
-    ensures { IsTrue result ↔ IsCircuit wires gates.now }
-{
-    for gate in gates {
-        if !is_on_wires(*gate, wires) {
-            return false;
-        }
+    if pattern.len() > 8 {
+        return Err(RowFault::TooLong);
     }
-    true
-}
-
-// whether the gate uses the wire
-fn touches(gate: Gate, wire: u32) -> bool
-    ensures { IsTrue result ↔ Touches gate wire }
-{
-    match gate {
-        Gate::H { wire: own } | Gate::X { wire: own } | Gate::Phase { wire: own, .. } => wire == own,
-        Gate::Cx { control, target } => wire == control || wire == target,
+    if replacement.len() >= pattern.len() {
+        return Err(RowFault::NotShorter);
     }
-}
-
-// whether some gate uses the wire
-fn uses(gates: &[Gate], wire: u32) -> bool
-    ensures { IsTrue result ↔ Uses gates.now wire }
-{
-    gates.iter().any(|gate| touches(*gate, wire))
-}
-
-// whether the gates use all wires
-fn use_all(gates: &[Gate], wires: u8) -> bool
-    ensures { IsTrue result ↔ ((w : ℕ) → w < wires → Uses gates.now w) }
-{
-    for wire in 0..wires {
-        if !uses(gates, u32::from(wire)) {
-            return false;
-        }
+    match phase_of(raw.wires, pattern, replacement) {
+        Ok(phase) => Ok(Row::checked(raw, phase)),
+        Err((from, to)) => Err(RowFault::Differs { from, to }),
     }
-    true
-}
-
-/// Whether there are 1 to 3 wires, both sides are circuits on them, and the pattern uses all of them.
-pub fn has_its_wires(wires: u8, pattern: &[Gate], replacement: &[Gate]) -> bool
-    ensures { IsTrue result ↔ HasItsWires wires pattern.now replacement.now }
-{
-    1 <= wires
-        && wires <= 3
-        && are_on_wires(pattern, wires)
-        && are_on_wires(replacement, wires)
-        && use_all(pattern, wires)
-}
-
-/// The number of H gates.
-pub fn h_gates(gates: &[Gate]) -> u8
-    requires { length gates.now ≤ 8 }
-    ensures { result ≡ h_count gates.now }
-{
-    let mut count = 0;
-    for gate in gates {
-        count += match gate {
-            Gate::H { .. } => 1,
-            _ => 0,
-        };
-    }
-    count
-}
-
-// whether the entries from one state to another agree up to ω^phase
-fn agrees(left: &[[Ring; 8]; 8], right: &[[Ring; 8]; 8], phase: u8, from: u8, to: u8) -> bool
-    requires from { from < 8 }
-    requires to { to < 8 }
-    requires within { IsMatrixWithin 32768 (to + 1) right.now }
-    ensures { IsTrue result ↔ (entry_in left.now from to ≡ turned phase (entry_in right.now from to)) }
-{
-    left[to as usize][from as usize] == turned_by(right[to as usize][from as usize], phase)
-}
-
-// the number of the first pair whose entries don't agree up to ω^phase
-fn first_mismatch(left: &[[Ring; 8]; 8], right: &[[Ring; 8]; 8], size: u8, phase: u8) -> Option<u8>
-    requires some { 1 ≤ size }
-    requires few { size ≤ 8 }
-    requires within { IsMatrixWithin 32768 size right.now }
-    ensures {
-        MatchOption result (MatchesBelow left.now right.now size phase (size * size))
-        (λ p. (p < size * size) × MatchesBelow left.now right.now size phase p × (MatchesAt left.now right.now size phase p → ⊥))
-    }
-{
-    for pair in 0..size * size {
-        if !agrees(left, right, phase, pair / size, pair % size) {
-            return Some(pair);
-        }
-    }
-    None
-}
-
-/// The least phase up to which all entries agree; or else the number of the first pair such that none
-/// makes the entries of all pairs up to it agree.
-pub fn matching_phase(left: &[[Ring; 8]; 8], right: &[[Ring; 8]; 8], size: u8) -> Result<u8, u8>
-    requires some { 1 ≤ size }
-    requires few { size ≤ 8 }
-    requires within { IsMatrixWithin 32768 size right.now }
-    ensures {
-        MatchResult result (λ k. (k < 8) × MatchesBelow left.now right.now size k (size * size))
-        (λ p. (p < size * size) × ((k : ℕ) → k < 8 → MatchesBelow left.now right.now size k (p + 1) → ⊥) ×
-        ((k : ℕ) × (k < 8) × MatchesBelow left.now right.now size k p))
-    }
-{
-    let mut last = 0;
-    for phase in 0..8u8 {
-        match first_mismatch(left, right, size, phase) {
-            None => return Ok(phase),
-            Some(pair) => last = last.max(pair),
-        }
-    }
-    Err(last)
 }

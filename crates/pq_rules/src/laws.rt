@@ -2,9 +2,12 @@
 //! caller's proof has the fact after the call.
 #![tactic(auto)]
 
-ghost use Rattle.std.specs.Prelude.{ℕ, List, map};
+ghost use Rattle.std.specs.Prelude.{◌≡◌, ℕ, List, map};
 ghost use Rattle.pq_gate.specs.declared.gate.Gate.{Gate};
 ghost use Rattle.pq_gate.specs.Matrix.{Same};
+ghost use Rattle.pq_rules.specs.declared.row.RawRow.{RawRow};
+ghost use Rattle.pq_rules.specs.declared.row.RowFault.{RowFault};
+ghost use Rattle.pq_rules.specs.Fault.{Comes};
 ghost use Rattle.pq_rules.specs.Renaming.{IsRenaming, renamed};
 ghost use Rattle.pq_rules.specs.Row.{RowView, IsSound};
 
@@ -16,4 +19,9 @@ pub fn same_on_every_register()
         Same n (map (renamed e) p) (map (renamed e) q) k }
     ensures rows { (n : ℕ) (e : List ℕ) (row : RowView) → IsSound row → IsRenaming row.wires n e →
         Same n (map (renamed e) row.pattern) (map (renamed e) row.replacement) row.phase }
+{}
+
+/// At most one fault of a raw row comes.
+pub fn one_fault()
+    ensures { (raw : RawRow) (one other : RowFault) → Comes raw one → Comes raw other → one ≡ other }
 {}

@@ -2,8 +2,10 @@
 #![tactic(auto)]
 
 mod check;
+mod compare;
 mod column;
 pub mod laws;
 mod row;
 
+pub use check::check_row;
 pub use row::{RawRow, Row, RowFault};

@@ -57,6 +57,18 @@ impl Model for Row {
 }
 
 impl Row {
+    // the raw row with its phase
+    pub(crate) fn checked(raw: RawRow, phase: u8) -> Row
+        requires {
+            IsSound (record { wires = raw.wires; pattern = raw.pattern.items; replacement = raw.replacement.items; phase = phase })
+        }
+        ensures {
+            result ≡ record { wires = raw.wires; pattern = raw.pattern.items; replacement = raw.replacement.items; phase = phase }
+        }
+    {
+        Row { raw, phase }
+    }
+
     /// How many eighths of a whole turn the pattern turns by more than the replacement, from 0 to 7.
     pub fn phase(&self) -> u8
         ensures phase { result ≡ self.now.phase }

@@ -1,6 +1,6 @@
 use Rattle.std.proofs.Common.{ℕ, ◌<◌, ◌+◌, ◌*◌}
 use Rattle.pq_rules.specs.Pairs.{MatchesBelow}
-use Rattle.pq_rules.proofs.check.matching_phase.Given as goal
+use Rattle.pq_rules.proofs.compare.matching_phase.Given as goal
 
 abbrev pub invariant-loop-phase : goal.invariant-loop-phase
 invariant-loop-phase l = record {
