@@ -1,7 +1,5 @@
 use Rattle.std.proofs.Common.{◌≡◌, ℕ, zero, suc, ◌-◌, ◌<◌, ◌≤◌, Bool, true, false, cond, List, [], ◌∷◌, length, get_or, drop, refl, ap, sym, ◌∙◌, arith, drop-cons}
-use Rattle.std.proofs.lemmas.Int.{ints}
 use Rattle.pq_gate.specs.declared.gate.Gate.{Gate}
-use Rattle.pq_gate.specs.declared.ring.Ring.{Ring}
 use Rattle.pq_gate.specs.Circuit.{IsOnWires, IsCircuit}
 use Rattle.pq_gate.specs.Matrix.{through, Entry}
 use Rattle.pq_gate.specs.Ring.{nought, one, root, rooted}

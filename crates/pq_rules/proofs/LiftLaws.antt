@@ -3,7 +3,7 @@ use Rattle.std.proofs.lemmas.List.{length-set, set-set, set_comm, set-get_or, ge
 use Rattle.pq_gate.specs.declared.gate.Gate.{Gate}
 use Rattle.pq_gate.specs.declared.gate.Gate.TheVariants.{H, X, Phase, Cx}
 use Rattle.pq_gate.specs.declared.ring.Ring.{Ring}
-use Rattle.pq_gate.specs.Bits.{bit, toggled}
+use Rattle.pq_gate.specs.Bits.{bit}
 use Rattle.pq_gate.specs.Circuit.{IsOnWires, IsCircuit}
 use Rattle.pq_gate.specs.Eighths.{eighths_of}
 use Rattle.pq_gate.specs.Ring.{plus, turned, turned_if, rooted}

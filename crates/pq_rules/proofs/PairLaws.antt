@@ -1,17 +1,17 @@
-use Rattle.std.proofs.Common.{◌≡◌, ℕ, zero, suc, ◌+◌, ◌-◌, ◌*◌, ◌/◌, ◌%◌, ◌^◌, ◌<◌, ◌≤◌, ◌⊎◌, inl, inr, Bool, true, false, cond, eqb, List, [], ◌∷◌, length, get_or, refl, ap, sym, subst, ◌∙◌, arith}
+use Rattle.std.proofs.Common.{◌≡◌, ℕ, suc, ◌+◌, ◌*◌, ◌/◌, ◌%◌, ◌^◌, ◌<◌, ◌≤◌, inl, inr, Bool, true, false, cond, eqb, List, [], ◌∷◌, length, refl, ap, sym, subst, ◌∙◌, arith}
 use Rattle.std.proofs.lemmas.Bool.{cases_eq, cases_lt}
 use Rattle.std.proofs.lemmas.Nat.{div-mul-add, mod-mul-add}
-use Rattle.std.proofs.Math.Nat.{pow-suc, div-add-mod, mod-lt, div-lt_iff_lt-mul, mul-le-mul_left}
+use Rattle.std.proofs.Math.Nat.{pow-suc, div-add-mod, mod-lt, mul-le-mul_left}
 use lib.Pow.{pow_pos, pow_mono}
 use Rattle.pq_gate.specs.declared.gate.Gate.{Gate}
 use Rattle.pq_gate.specs.declared.ring.Ring.{Ring}
 use Rattle.pq_gate.specs.Circuit.{IsCircuit}
 use Rattle.pq_gate.specs.Matrix.{Entry, h_count, Same}
 use Rattle.pq_gate.specs.Ring.{turned, rooted}
-use Rattle.pq_rules.specs.Agreement.{AgreesAt, IsBefore, FitsUpTo, IsFirstDiffering}
-use Rattle.pq_rules.specs.Bounds.{IsWithin, zeros}
-use Rattle.pq_rules.specs.Columns.{HasWeights, IsMatrix}
-use Rattle.pq_rules.specs.Pairs.{entry_in, IsMatrixWithin, MatchesAt, MatchesBelow}
+use Rattle.pq_rules.specs.Agreement.{AgreesAt, IsBefore, IsFirstDiffering}
+use Rattle.pq_rules.specs.Bounds.{IsWithin}
+use Rattle.pq_rules.specs.Columns.{IsMatrix}
+use Rattle.pq_rules.specs.Pairs.{entry_in, IsMatrixWithin, MatchesBelow}
 use Rattle.pq_rules.specs.Row.{RowView}
 use Rattle.pq_rules.specs.States.{state}
 use Rattle.pq_rules.proofs.BoundLaws.{IsWithin-entries}
@@ -51,19 +51,25 @@ smaller s f t later_f later_t inside (inr same) = rw same.0 (omega (arith, same.
 -- the smaller number is of a pair that comes before
 pub is_before : (s p q : ℕ) → 0 < s → q < p → IsBefore (q / s) (q % s) (p / s) (p % s)
 is_before s p q some below =
-    elim (cases_lt (q / s) (p / s)) [ inl less ↦ inl less
-    | inr more ↦ elim (cases_eq (q / s) (p / s)) [ inl same ↦
-        inr (same, (let rows : s * (q / s) ≡ s * (p / s) = ap (λ (m : ℕ). s * m) same in omega (arith, div-add-mod q s, div-add-mod p s, rows)))
-      | inr differ ↦ absurd (
-        let less : p / s < q / s = omega arith in
-        let rows : s * suc (p / s) ≤ s * (q / s) = mul-le-mul_left s less in
-        omega (arith, div-add-mod q s, div-add-mod p s, mod-lt p some, rows)) ] ]
+    elim (cases_lt (q / s) (p / s)) [
+      | inl less ↦ inl less
+      | inr more ↦ elim (cases_eq (q / s) (p / s)) [
+        | inl same ↦
+            inr (same, (let rows : s * (q / s) ≡ s * (p / s) = ap (λ (m : ℕ). s * m) same in omega (arith, div-add-mod q s, div-add-mod p s, rows)))
+        | inr differ ↦ absurd (
+            let less : p / s < q / s = omega arith in
+            let rows : s * suc (p / s) ≤ s * (q / s) = mul-le-mul_left s less in
+            omega (arith, div-add-mod q s, div-add-mod p s, mod-lt p some, rows))
+      ]
+    ]
 
 -- the parts of a number of a pair
 pub first_inside : (s p : ℕ) → 0 < s → p < s * s → p / s < s
 first_inside s p some below =
-    elim (cases_lt (p / s) s) [ inl less ↦ less
-    | inr more ↦ absurd (let rows : s * s ≤ s * (p / s) = mul-le-mul_left s more in omega (arith, div-add-mod p s, rows)) ]
+    elim (cases_lt (p / s) s) [
+      | inl less ↦ less
+      | inr more ↦ absurd (let rows : s * s ≤ s * (p / s) = mul-le-mul_left s more in omega (arith, div-add-mod p s, rows))
+    ]
 
 module _ (row : RowView) (few : row.wires ≤ 3) (left right : List (List Ring))
     (left_is : IsMatrix row.wires (h_count row.replacement) row.pattern left)
@@ -122,18 +128,23 @@ module _ (row : RowView) (few : row.wires ≤ 3) (left right : List (List Ring))
         none = λ k k_below fits. none k k_below (λ q q_below.
             let q_inside : q < 2 ^ row.wires * 2 ^ row.wires = omega arith in
             matches k (q / 2 ^ row.wires) (q % 2 ^ row.wires) (first_inside (2 ^ row.wires) q positive q_inside) (mod-lt q positive)
-            (elim (cases_eq q p) [ inl same ↦
-              subst (λ (m : ℕ). AgreesAt row k (m / 2 ^ row.wires) (m % 2 ^ row.wires)) (sym same) fits.here
-            | inr differ ↦
-              fits.before (q / 2 ^ row.wires) (q % 2 ^ row.wires) (first_inside (2 ^ row.wires) q positive q_inside) (mod-lt q positive)
-              (is_before (2 ^ row.wires) p q positive (omega arith)) ]));
+            (elim (cases_eq q p) [
+              | inl same ↦
+                  subst (λ (m : ℕ). AgreesAt row k (m / 2 ^ row.wires) (m % 2 ^ row.wires)) (sym same) fits.here
+              | inr differ ↦
+                  fits.before (q / 2 ^ row.wires) (q % 2 ^ row.wires) (first_inside (2 ^ row.wires) q positive q_inside) (mod-lt q positive)
+                  (is_before (2 ^ row.wires) p q positive (omega arith))
+            ]));
         first = λ f t f_in t_in before.
-            let at : f * 2 ^ row.wires + t < p = omega (arith, smaller (2 ^ row.wires) f t (p / 2 ^ row.wires) (p % 2 ^ row.wires) t_in before, parts) in
-            (some.0, some.1, record {
-              before = λ g u g_in u_in earlier.
-                  agrees_at some.0 p g u g_in u_in (omega (arith, smaller (2 ^ row.wires) g u f t u_in earlier)) some.2;
-              here = agrees_at some.0 p f t f_in t_in at some.2;
-            });
+            let at : f * 2 ^ row.wires + t < p = omega (arith, smaller (2 ^ row.wires) f t (p / 2 ^ row.wires) (p % 2 ^ row.wires) t_in before, parts) in (
+              some.0,
+              some.1,
+              record {
+                before = λ g u g_in u_in earlier.
+                    agrees_at some.0 p g u g_in u_in (omega (arith, smaller (2 ^ row.wires) g u f t u_in earlier)) some.2;
+                here = agrees_at some.0 p f t f_in t_in at some.2;
+              },
+            );
       }
 
 -- the entries of a row's matrices are small

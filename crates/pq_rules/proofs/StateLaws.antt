@@ -1,5 +1,5 @@
 use Rattle.std.proofs.lemmas.Bool.{cases_eq, lt-leb, ltb-true}
-use Rattle.std.proofs.Common.{inl, inr, ◌≡◌, ℕ, zero, suc, ◌+◌, ◌-◌, ◌*◌, ◌/◌, ◌%◌, ◌^◌, ◌<◌, ◌≤◌, Bool, true, false, not, cond, ◌&&◌, ◌||◌, eqb, ltb, leb, List, [], ◌∷◌, length, set, refl, ap, sym, subst, ◌∙◌, arith}
+use Rattle.std.proofs.Common.{inl, inr, ◌≡◌, ℕ, zero, suc, ◌-◌, ◌/◌, ◌%◌, ◌^◌, ◌<◌, ◌≤◌, Bool, true, false, ◌&&◌, ◌||◌, eqb, ltb, leb, set, refl, sym, subst, arith}
 use Rattle.std.specs.Prelude.{bit_and, bit_or}
 use Rattle.std.specs.Bool.{beq}
 use Rattle.pq_gate.specs.Bits.{bit, same_bits}
@@ -19,8 +19,10 @@ pub all_below-at : (n : ℕ) (p : ℕ → Bool) → all_below n p ≡ true → (
 all_below-at zero p all k below = absurd (omega arith)
 all_below-at (suc n) p all k below =
     let two : (p n ≡ true) × (all_below n p ≡ true) = both (p n) (all_below n p) all in
-    elim (cases_eq k n) [ inl same ↦ subst (λ (j : ℕ). p j ≡ true) (sym same) two.0
-    | inr differ ↦ all_below-at n p two.1 k (omega arith) ]
+    elim (cases_eq k n) [
+      | inl same ↦ subst (λ (j : ℕ). p j ≡ true) (sym same) two.0
+      | inr differ ↦ all_below-at n p two.1 k (omega arith)
+    ]
 
 implied : (p q : Bool) → p ≡ false → p || q ≡ true → q ≡ true
 implied true q not_p is = absurd (cc)

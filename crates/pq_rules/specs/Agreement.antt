@@ -1,4 +1,4 @@
-use Rattle.std.specs.Prelude.{◌≡◌, ℕ, ◌<◌, ◌≤◌, ◌^◌, ◌⊎◌}
+use Rattle.std.specs.Prelude.{◌≡◌, ℕ, ◌<◌, ◌^◌, ◌⊎◌}
 use Rattle.pq_gate.specs.Matrix.{Entry, h_count}
 use Rattle.pq_gate.specs.Ring.{turned, rooted}
 use Rattle.pq_rules.specs.Row.{RowView}

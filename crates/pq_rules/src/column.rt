@@ -181,10 +181,8 @@ fn entry_through(gate: Gate, rest: &[Ring; 8], from: u8) -> Ring
     requires gate { IsOnWires 3 gate }
     requires from { from < 8 }
     requires rest { IsColumnWithin 16384 rest.now }
-    ensures {
-        (n : ℕ) (f : List Bool → Ring) → n ≤ 3 → IsOnWires n gate → HasWeights n rest.now f →
-        result ≡ through gate f (state n from)
-    }
+    ensures { (n : ℕ) (f : List Bool → Ring) → n ≤ 3 → IsOnWires n gate → HasWeights n rest.now f →
+        result ≡ through gate f (state n from) }
 {
     match gate {
         Gate::H { wire } => {
@@ -194,7 +192,11 @@ fn entry_through(gate: Gate, rest: &[Ring; 8], from: u8) -> Ring
         }
         Gate::X { wire } => rest[toggled_bit(from, wire, true) as usize],
         Gate::Phase { eighths, wire } => {
-            turned_where(has_bit(from, wire), eighths_count(eighths), rest[from as usize])
+            turned_where(
+                has_bit(from, wire),
+                eighths_count(eighths),
+                rest[from as usize],
+            )
         }
         Gate::Cx { control, target } => {
             rest[toggled_bit(from, target, has_bit(from, control)) as usize]
@@ -206,10 +208,8 @@ fn entry_through(gate: Gate, rest: &[Ring; 8], from: u8) -> Ring
 fn column_through(gate: Gate, rest: &[Ring; 8]) -> [Ring; 8]
     requires gate { IsOnWires 3 gate }
     requires rest { IsColumnWithin 16384 rest.now }
-    ensures {
-        (n : ℕ) (f : List Bool → Ring) → n ≤ 3 → IsOnWires n gate → HasWeights n rest.now f →
-        HasWeights n result (λ x. through gate f x)
-    }
+    ensures { (n : ℕ) (f : List Bool → Ring) → n ≤ 3 → IsOnWires n gate → HasWeights n rest.now f →
+        HasWeights n result (λ x. through gate f x) }
 {
     let mut column = *rest;
     for from in 0..8u8 {

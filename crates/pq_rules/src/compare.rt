@@ -40,7 +40,8 @@ fn touches(gate: Gate, wire: u32) -> bool
     ensures { IsTrue result ↔ Touches gate wire }
 {
     match gate {
-        Gate::H { wire: own } | Gate::X { wire: own } | Gate::Phase { wire: own, .. } => wire == own,
+        Gate::H { wire: own } | Gate::X { wire: own } | Gate::Phase { wire: own, .. } => wire
+            == own,
         Gate::Cx { control, target } => wire == control || wire == target,
     }
 }
@@ -115,10 +116,8 @@ fn first_mismatch(left: &[[Ring; 8]; 8], right: &[[Ring; 8]; 8], size: u8, phase
     requires some { 1 ≤ size }
     requires few { size ≤ 8 }
     requires within { IsMatrixWithin 32768 size right.now }
-    ensures {
-        MatchOption result (MatchesBelow left.now right.now size phase (size * size))
-        (λ p. (p < size * size) × MatchesBelow left.now right.now size phase p × (MatchesAt left.now right.now size phase p → ⊥))
-    }
+    ensures { MatchOption result (MatchesBelow left.now right.now size phase (size * size))
+        (λ p. (p < size * size) × MatchesBelow left.now right.now size phase p × (MatchesAt left.now right.now size phase p → ⊥)) }
 {
     for pair in 0..size * size {
         if !agrees(left, right, phase, pair / size, pair % size) {
@@ -134,11 +133,9 @@ pub fn matching_phase(left: &[[Ring; 8]; 8], right: &[[Ring; 8]; 8], size: u8) -
     requires some { 1 ≤ size }
     requires few { size ≤ 8 }
     requires within { IsMatrixWithin 32768 size right.now }
-    ensures {
-        MatchResult result (λ k. (k < 8) × MatchesBelow left.now right.now size k (size * size))
+    ensures { MatchResult result (λ k. (k < 8) × MatchesBelow left.now right.now size k (size * size))
         (λ p. (p < size * size) × ((k : ℕ) → k < 8 → MatchesBelow left.now right.now size k (p + 1) → ⊥) ×
-        ((k : ℕ) × (k < 8) × MatchesBelow left.now right.now size k p))
-    }
+        ((k : ℕ) × (k < 8) × MatchesBelow left.now right.now size k p)) }
 {
     let mut last = 0u8;
     for phase in 0..8u8 {
@@ -156,10 +153,8 @@ pub fn phase_of(wires: u8, pattern: &[Gate], replacement: &[Gate]) -> Result<u8,
     requires wires { HasItsWires wires pattern.now replacement.now }
     requires short { length pattern.now ≤ 8 }
     requires shorter { length replacement.now < length pattern.now }
-    ensures {
-        MatchResult result (λ k. (k ≤ 7) × Same wires pattern.now replacement.now k) (λ pair. IsFirstDiffering
-        (record { wires = wires; pattern = pattern.now; replacement = replacement.now; phase = 0 }) pair.0 pair.1)
-    }
+    ensures { MatchResult result (λ k. (k ≤ 7) × Same wires pattern.now replacement.now k) (λ pair. IsFirstDiffering
+        (record { wires = wires; pattern = pattern.now; replacement = replacement.now; phase = 0 }) pair.0 pair.1) }
 {
     let left = matrix_of(pattern, wires, h_gates(replacement));
     let right = matrix_of(replacement, wires, h_gates(pattern));

@@ -2,8 +2,8 @@
 #![tactic(auto)]
 
 mod check;
-mod compare;
 mod column;
+mod compare;
 pub mod laws;
 mod row;
 

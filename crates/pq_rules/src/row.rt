@@ -47,24 +47,16 @@ impl Model for Row {
 
     ghost use Rattle.pq_rules.specs.Row.{IsSound};
 
-    ghost view = {
-        λ a. record { wires = a.raw.wires; pattern = a.raw.pattern.items; replacement = a.raw.replacement.items; phase = a.phase }
-    };
+    ghost view = { λ a. record { wires = a.raw.wires; pattern = a.raw.pattern.items; replacement = a.raw.replacement.items; phase = a.phase } };
 
-    ghost invariant = {
-        λ a. IsSound (record { wires = a.raw.wires; pattern = a.raw.pattern.items; replacement = a.raw.replacement.items; phase = a.phase })
-    };
+    ghost invariant = { λ a. IsSound (record { wires = a.raw.wires; pattern = a.raw.pattern.items; replacement = a.raw.replacement.items; phase = a.phase }) };
 }
 
 impl Row {
     // the raw row with its phase
     pub(crate) fn checked(raw: RawRow, phase: u8) -> Row
-        requires {
-            IsSound (record { wires = raw.wires; pattern = raw.pattern.items; replacement = raw.replacement.items; phase = phase })
-        }
-        ensures {
-            result ≡ record { wires = raw.wires; pattern = raw.pattern.items; replacement = raw.replacement.items; phase = phase }
-        }
+        requires { IsSound (record { wires = raw.wires; pattern = raw.pattern.items; replacement = raw.replacement.items; phase = phase }) }
+        ensures { result ≡ record { wires = raw.wires; pattern = raw.pattern.items; replacement = raw.replacement.items; phase = phase } }
     {
         Row { raw, phase }
     }

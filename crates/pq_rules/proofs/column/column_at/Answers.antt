@@ -1,4 +1,4 @@
-use Rattle.std.proofs.Common.{◌≡◌, ℕ, ◌^◌, ◌<◌, ◌%◌, Bool, cond, eqb, ap, sym, subst, ◌∙◌, arith}
+use Rattle.std.proofs.Common.{ℕ, ◌<◌, ◌%◌, Bool, cond, eqb, ap, sym, subst, ◌∙◌, arith}
 use Rattle.pq_gate.specs.Bits.{same_bits}
 use Rattle.pq_rules.specs.States.{state}
 use Rattle.pq_gate.specs.declared.ring.Ring.{Ring}

@@ -1,4 +1,4 @@
-use Rattle.std.proofs.Common.{◌≡◌, ℕ, ◌<◌, ◌≤◌, List, length, drop}
+use Rattle.std.proofs.Common.{◌≤◌, length, drop}
 use Rattle.pq_gate.specs.Matrix.{Entry}
 use Rattle.pq_gate.specs.Ring.{rooted}
 use Rattle.pq_rules.specs.Columns.{HasWeights}

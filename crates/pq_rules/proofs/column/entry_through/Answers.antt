@@ -1,4 +1,4 @@
-use Rattle.std.proofs.Common.{◌≡◌, arith, subst, sym}
+use Rattle.std.proofs.Common.{arith, subst, sym}
 use Rattle.pq_gate.specs.declared.ring.Ring.{Ring}
 use Rattle.pq_rules.specs.Bounds.{IsWithin}
 use Rattle.pq_rules.proofs.BoundLaws.{IsWithin-more, IsWithin-turned_if}

@@ -1,4 +1,4 @@
-use Rattle.std.proofs.Common.{◌≡◌, ℕ, ◌/◌, ◌%◌, ap, ◌∙◌, eqb}
+use Rattle.std.proofs.Common.{ℕ, ◌/◌, ◌%◌, ap, ◌∙◌, eqb}
 use Rattle.pq_rules.proofs.StateLaws.{bits_of}
 use Rattle.pq_rules.proofs.column.has_bit.Goals as goal
 

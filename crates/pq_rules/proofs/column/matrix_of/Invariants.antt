@@ -1,4 +1,4 @@
-use Rattle.std.proofs.Common.{◌≡◌, ℕ, ◌<◌, List, [], length, get_or}
+use Rattle.std.proofs.Common.{◌≡◌, ℕ, ◌<◌, [], length, get_or}
 use Rattle.pq_gate.specs.Matrix.{Entry}
 use Rattle.pq_gate.specs.Ring.{rooted}
 use Rattle.pq_rules.specs.Columns.{HasWeights}

@@ -1,5 +1,5 @@
-use Rattle.std.proofs.Common.{◌≡◌, ℕ, ◌+◌, ◌^◌, sym, subst, ap, ◌∙◌, add-one, arith, rules}
-use Rattle.pq_gate.specs.Ring.{one, root, rooted}
+use Rattle.std.proofs.Common.{◌+◌, sym, subst, ap, ◌∙◌, add-one, arith, rules}
+use Rattle.pq_gate.specs.Ring.{one, root}
 use Rattle.pq_gate.specs.declared.ring.Ring.{Ring}
 use Rattle.pq_rules.specs.Bounds.{IsWithin}
 use Rattle.pq_rules.proofs.BoundLaws.{IsWithin-more, IsWithin-one, IsWithin-rooted, pow_grows}

@@ -1,5 +1,5 @@
-use Rattle.std.proofs.Common.{◌≡◌, sym, subst, ap, ◌∙◌, add-one}
-use Rattle.pq_gate.specs.Ring.{turn, turned}
+use Rattle.std.proofs.Common.{sym, subst, ap, ◌∙◌, add-one}
+use Rattle.pq_gate.specs.Ring.{turn}
 use Rattle.pq_gate.specs.declared.ring.Ring.{Ring}
 use Rattle.pq_rules.specs.Bounds.{IsWithin}
 use Rattle.pq_rules.proofs.BoundLaws.{IsWithin-turned}

@@ -1,4 +1,4 @@
-use Rattle.std.proofs.Common.{◌≡◌, ◌<◌, ℕ, ◌-◌, Bool, true, false, set, ap, sym, subst, ◌∙◌}
+use Rattle.std.proofs.Common.{◌<◌, ℕ, ◌-◌, Bool, set, ap, sym, subst, ◌∙◌}
 use Rattle.std.specs.Prelude.{bit_and, bit_or}
 use Rattle.pq_rules.specs.States.{state}
 use Rattle.pq_rules.proofs.StateLaws.{bits_of, range_of}

@@ -1,6 +1,4 @@
-use Rattle.std.proofs.Common.{ℕ, ◌^◌, ◌*◌, ◌+◌, ◌/◌, ◌%◌, ◌<◌, ◌≤◌, List, subst, arith}
-use Rattle.pq_gate.specs.Matrix.{h_count}
-use Rattle.pq_rules.specs.Agreement.{IsFirstDiffering}
+use Rattle.std.proofs.Common.{ℕ, ◌*◌, ◌+◌, ◌<◌, subst, arith}
 use Rattle.pq_rules.specs.Columns.{IsMatrix}
 use Rattle.pq_rules.specs.Pairs.{MatchesBelow}
 use Rattle.pq_rules.specs.Row.{RowView}
@@ -18,10 +16,11 @@ returns-in-Ok c =
     let left = subst (λ (r : ℕ). IsMatrix c.args.wires r c.args.pattern.now c.matrix_of-left.result) c.h_gates.ensures.is c.matrix_of-left.ensures in
     let right = subst (λ (r : ℕ). IsMatrix c.args.wires r c.args.replacement.now c.matrix_of-right.result) c.h_gates-2.ensures.is c.matrix_of-right.ensures in
     let all = subst (λ (s : ℕ). MatchesBelow c.matrix_of-left.result c.matrix_of-right.result s c.in-Ok.phase (s * s)) c.states-size.ensures.value c.in-Ok.ensures.1 in
-    let few : c.in-Ok.phase < 8 = c.in-Ok.ensures.0 in
-    (omega arith,
+    let few : c.in-Ok.phase < 8 = c.in-Ok.ensures.0 in (
+      omega arith,
       same_of_matches row c.requires.wires.few c.matrix_of-left.result c.matrix_of-right.result left right c.in-Ok.phase
-      c.requires.wires.left c.requires.wires.right all)
+          c.requires.wires.left c.requires.wires.right all,
+    )
 
 pub returns-in-Err : goal.returns-in-Err
 returns-in-Err c =

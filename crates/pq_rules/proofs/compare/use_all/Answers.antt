@@ -1,4 +1,4 @@
-use Rattle.std.proofs.Common.{ℕ, below_more, rules}
+use Rattle.std.proofs.Common.{ℕ, below_more}
 use Rattle.pq_rules.specs.Row.{Uses}
 use Rattle.pq_rules.proofs.compare.use_all.Goals as goal
 
