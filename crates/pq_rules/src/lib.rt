@@ -6,6 +6,9 @@ mod column;
 mod compare;
 pub mod laws;
 mod row;
+mod rules;
+mod table;
 
 pub use check::check_row;
 pub use row::{RawRow, Row, RowFault};
+pub use rules::Rules;
