@@ -44,12 +44,24 @@ impl Model for Rules {
 impl Rules {
     /// The 52 built-in rows.
     pub fn builtin(alloc: Global) -> Result<Rules, AllocError>
-        ensures { IfOk result (λ rules. rules ≡ builtin_rows) }
+        ensures rows { IfOk result (λ rules. rules ≡ builtin_rows) }
+        ensures count { IfOk result (λ rules. length rules ≡ 52) }
     {
         let mut rows = Vec::with_capacity(alloc, SHAPES.len())?;
         for shape in &SHAPES {
             rows.push_reserved(row_of(alloc, shape)?);
         }
+        Rules::of(alloc, rows)
+    }
+
+    /// These rules, and the extra rows behind them.
+    pub fn with(self, alloc: Global, extra: Vec<Row>) -> Result<Rules, AllocError>
+        requires { length self + vec_len extra ≤ 308 }
+        ensures { IfOk result (λ rules. rules ≡ self ++ extra.items) }
+    {
+        let Rules { mut rows, starting: _ } = self;
+        let mut extra = extra;
+        rows.append(&mut extra)?;
         Rules::of(alloc, rows)
     }
 

@@ -23,8 +23,8 @@ loop-shape-preserved c = record {
   capacity = c.push_reserved.ensures.capacity ∙ c.loop-shape.invariant.capacity;
 }
 
-pub returns : goal.returns
-returns c =
+pub returns-clause-rows : goal.returns-clause-rows
+returns-clause-rows c =
     let end : c.loop-shape.shape-index ≡ 52 = omega arith in
     subst (λ (rows : List RowView). IfOk c.of.result (λ rules. rules ≡ rows))
     (c.loop-shape.invariant.rows ∙ ap (λ (k : ℕ). map (shape_row GATES) (take k SHAPES)) end ∙ shapes_are_rows) c.of.ensures
