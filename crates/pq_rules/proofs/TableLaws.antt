@@ -1,4 +1,4 @@
-use Rattle.std.proofs.Common.{◌≡◌, ℕ, zero, suc, ◌+◌, ◌-◌, ◌^◌, ◌<◌, ◌≤◌, Bool, true, false, ◌&&◌, ◌||◌, eqb, ltb, leb, not, ◌⊎◌, List, [], ◌∷◌, length, get_or, map, take, drop, inl, inr, refl, ap, sym, subst, ◌∙◌, eq-eqb, arith}
+use Rattle.std.proofs.Common.{◌≡◌, ℕ, zero, suc, ◌^◌, ◌<◌, ◌≤◌, Bool, true, false, ◌&&◌, ◌||◌, eqb, ltb, leb, not, ◌⊎◌, List, [], ◌∷◌, length, get_or, map, inl, inr, refl, ap, sym, subst, eq-eqb, arith}
 use Rattle.std.specs.Prelude.{ℤ, pos, negsuc}
 use Rattle.std.proofs.lemmas.Bool.{ltb-true, leb-true, eqb-true}
 use Rattle.pq_gate.specs.declared.gate.Gate.{Gate}
@@ -96,8 +96,10 @@ uses_later w g gates uses = (suc uses.0, uses.1, omega (arith, uses.2), uses.3, 
 
 uses_true : (w : ℕ) (gates : List Gate) → any_touching w gates ≡ true → Uses gates w
 uses_true w [] is = absurd (cc)
-uses_true w (g ∷ gates) is = elim (either (touching w g) _ is) [ inl here ↦ (0, g, omega arith, refl, touching-true w g here)
-    | inr later ↦ uses_later w g gates (uses_true w gates later) ]
+uses_true w (g ∷ gates) is = elim (either (touching w g) _ is) [
+  | inl here ↦ (0, g, omega arith, refl, touching-true w g here)
+  | inr later ↦ uses_later w g gates (uses_true w gates later)
+]
 
 -- the entries agree from one state to another
 abbrev agree_test : RowView → ℕ → ℕ → Bool

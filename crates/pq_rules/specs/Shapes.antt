@@ -1,4 +1,4 @@
-use Rattle.std.specs.Prelude.{ℕ, List, slice_range}
+use Rattle.std.specs.Prelude.{List, slice_range}
 use Rattle.pq_gate.specs.declared.gate.Gate.{Gate}
 use Rattle.pq_rules.specs.declared.table.Shape.{Shape}
 use Rattle.pq_rules.specs.Row.{RowView}

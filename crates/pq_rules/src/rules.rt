@@ -35,10 +35,8 @@ impl Model for Rules {
 
     ghost view = { λ a. a.rows.items };
 
-    ghost invariant = {
-        λ a. (vec_len a.rows ≤ 308) × (vec_len a.starting ≡ 10) ×
-        ((k : ℕ) (d : _) → k < 10 → (slice_index_or a.starting.items k d).items ≡ numbers_starting k 1 a.rows.items)
-    };
+    ghost invariant = { λ a. (vec_len a.rows ≤ 308) × (vec_len a.starting ≡ 10) ×
+        ((k : ℕ) (d : _) → k < 10 → (slice_index_or a.starting.items k d).items ≡ numbers_starting k 1 a.rows.items) };
 }
 
 impl Rules {
@@ -59,7 +57,10 @@ impl Rules {
         requires { length self + vec_len extra ≤ 308 }
         ensures { IfOk result (λ rules. rules ≡ self ++ extra.items) }
     {
-        let Rules { mut rows, starting: _ } = self;
+        let Rules {
+            mut rows,
+            starting: _,
+        } = self;
         let mut extra = extra;
         rows.append(&mut extra)?;
         Rules::of(alloc, rows)
@@ -164,9 +165,7 @@ fn numbers_of(alloc: Global, rows: &[Row], of_kind: u8) -> Result<Vec<u32>, Allo
 fn index_of(alloc: Global, rows: &[Row]) -> Result<Vec<Vec<u32>>, AllocError>
     requires { length rows.now ≤ 308 }
     ensures len { IfOk result (λ index. vec_len index ≡ 10) }
-    ensures numbers {
-        IfOk result (λ index. (k : ℕ) (d : _) → k < 10 → (slice_index_or index.items k d).items ≡ numbers_starting k 1 rows.now)
-    }
+    ensures numbers { IfOk result (λ index. (k : ℕ) (d : _) → k < 10 → (slice_index_or index.items k d).items ≡ numbers_starting k 1 rows.now) }
 {
     let mut index = Vec::with_capacity(alloc, KINDS as usize)?;
     for of_kind in 0..KINDS {

@@ -1,4 +1,4 @@
-use Rattle.std.proofs.Common.{◌≡◌, ◌∙◌}
+use Rattle.std.proofs.Common.{◌∙◌}
 use Rattle.pq_rules.proofs.rules.row_of.Goals as goal
 
 pub checked-requires : goal.checked-requires

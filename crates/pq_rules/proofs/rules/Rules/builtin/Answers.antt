@@ -1,6 +1,5 @@
-use Rattle.std.proofs.Common.{◌≡◌, ℕ, ◌+◌, ◌<◌, List, [], ◌∷◌, ◌++◌, map, take, IfOk, ap, sym, subst, ◌∙◌, arith}
+use Rattle.std.proofs.Common.{◌≡◌, ℕ, List, [], ◌∷◌, ◌++◌, map, take, IfOk, ap, sym, subst, ◌∙◌, arith}
 use Rattle.std.proofs.lemmas.List.{map_more}
-use Rattle.pq_rules.specs.declared.table.Shape.{Shape}
 use Rattle.pq_rules.specs.declared.table.TheConstants.{GATES, SHAPES}
 use Rattle.pq_rules.specs.Row.{RowView}
 use Rattle.pq_rules.specs.Shapes.{shape_row}
