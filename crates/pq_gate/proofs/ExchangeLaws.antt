@@ -1,6 +1,6 @@
-use Rattle.std.proofs.Common.{◌≡◌, ◌≢◌, ℕ, ◌<◌, ◌≤◌, Bool, true, false, not, cond, List, length, set, ◌⊎◌, inl, inr, ⊎_elim, refl, ap, sym, subst, ◌∙◌}
-use Rattle.std.proofs.lemmas.List.{set-set, set_comm, set_past, get_or-set_same, get_or-set_other}
-use Rattle.std.proofs.lemmas.Bool.{cases_lt, cases_eq}
+use Rattle.std.proofs.Common.{◌≡◌, ◌≢◌, ℕ, Bool, true, false, List, set, ◌⊎◌, inl, inr, ⊎_elim, refl, ap, sym, subst, ◌∙◌}
+use Rattle.std.proofs.lemmas.List.{set_comm, get_or-set_other}
+use Rattle.std.proofs.lemmas.Bool.{cases_eq}
 use Rattle.pq_gate.specs.declared.gate.Gate.{Gate}
 use Rattle.pq_gate.specs.declared.gate.Gate.TheVariants.{H, X, Phase, Cx}
 use Rattle.pq_gate.specs.declared.ring.Ring.{Ring}
@@ -9,7 +9,7 @@ use Rattle.pq_gate.specs.Circuit.{IsOnWires}
 use Rattle.pq_gate.specs.Commuting.{Touches, AlongZ, AlongX, Commutes}
 use Rattle.pq_gate.specs.Eighths.{eighths_of}
 use Rattle.pq_gate.specs.Matrix.{through}
-use Rattle.pq_gate.specs.Ring.{plus, turned, turned_if}
+use Rattle.pq_gate.specs.Ring.{plus, turned_if}
 use Rattle.pq_gate.proofs.ActLaws.{turned_if-plus}
 use Rattle.pq_gate.proofs.BitLaws.{toggled_comm, toggled-set, bit-toggled_other}
 use Rattle.pq_gate.proofs.RingLaws.{plus_swap, turned_comm}

@@ -1,10 +1,10 @@
-use Rattle.std.proofs.Common.{◌≡◌, ℕ, ◌+◌, Bool, List, [], ◌∷◌, ◌++◌, refl, ap, sym, subst, ◌∙◌, arith, append_assoc}
+use Rattle.std.proofs.Common.{◌≡◌, ℕ, Bool, List, [], ◌∷◌, ◌++◌, refl, ap, sym, subst, ◌∙◌, arith, append_assoc}
 use Rattle.std.specs.List.{AllByRecursion}
 use Rattle.pq_gate.specs.declared.gate.Gate.{Gate}
 use Rattle.pq_gate.specs.declared.ring.Ring.{Ring}
 use Rattle.pq_gate.specs.Circuit.{IsOnWires, IsCircuit}
 use Rattle.pq_gate.specs.Commuting.{Commutes}
-use Rattle.pq_gate.specs.Matrix.{through, Entry, h_count, roots_of, Same}
+use Rattle.pq_gate.specs.Matrix.{through, Entry, h_count, Same}
 use Rattle.pq_gate.specs.Ring.{rooted}
 use Rattle.pq_gate.proofs.ActLaws.{Act, Act-append, h_count-append}
 use Rattle.pq_gate.proofs.CircuitLaws.{IsCircuit-append}

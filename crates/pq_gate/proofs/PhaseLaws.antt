@@ -1,4 +1,4 @@
-use Rattle.std.proofs.Common.{◌≡◌, ℕ, cond, eqb, ◌⊎◌, ⊎_elim, ap, sym, ◌∙◌}
+use Rattle.std.proofs.Common.{◌≡◌, ℕ, cond, eqb, ⊎_elim, ap, sym, ◌∙◌}
 use Rattle.pq_gate.specs.declared.gate.Eighths.TheVariants.{T, S, Z, Sdg, Tdg}
 use Rattle.pq_gate.specs.declared.gate.Sum.{Sum}
 use Rattle.pq_gate.specs.declared.gate.Sum.TheVariants.{Nothing, One, Two}

@@ -32,3 +32,39 @@ fn count(eighths: Eighths) -> u8
         Eighths::Tdg => 7,
     }
 }
+
+#[cfg(test)]
+mod tests {
+    use super::*;
+    use std::process::Abort;
+
+    const SUMS: [(Eighths, Eighths, Sum); 15] = [
+        (Eighths::T, Eighths::T, Sum::One(Eighths::S)),
+        (Eighths::T, Eighths::S, Sum::Two),
+        (Eighths::T, Eighths::Z, Sum::Two),
+        (Eighths::T, Eighths::Sdg, Sum::One(Eighths::Tdg)),
+        (Eighths::T, Eighths::Tdg, Sum::Nothing),
+        (Eighths::S, Eighths::S, Sum::One(Eighths::Z)),
+        (Eighths::S, Eighths::Z, Sum::One(Eighths::Sdg)),
+        (Eighths::S, Eighths::Sdg, Sum::Nothing),
+        (Eighths::S, Eighths::Tdg, Sum::One(Eighths::T)),
+        (Eighths::Z, Eighths::Z, Sum::Nothing),
+        (Eighths::Z, Eighths::Sdg, Sum::One(Eighths::S)),
+        (Eighths::Z, Eighths::Tdg, Sum::Two),
+        (Eighths::Sdg, Eighths::Sdg, Sum::One(Eighths::Z)),
+        (Eighths::Sdg, Eighths::Tdg, Sum::Two),
+        (Eighths::Tdg, Eighths::Tdg, Sum::One(Eighths::Sdg)),
+    ];
+
+    fn sum_is(rt: &impl Abort, first: Eighths, second: Eighths, expected: Sum) {
+        assert_eq!(rt; sum(first, second), expected);
+        assert_eq!(rt; sum(second, first), expected);
+    }
+
+    #[test]
+    fn sums_leave_out_whole_turns(rt: HostRuntime) {
+        for (first, second, expected) in SUMS {
+            sum_is(&rt, first, second, expected);
+        }
+    }
+}

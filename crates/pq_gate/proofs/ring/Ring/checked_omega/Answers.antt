@@ -1,5 +1,4 @@
 use Rattle.std.proofs.Common.{arith, rules}
-use Rattle.pq_gate.specs.declared.ring.Ring.{Ring}
 use Rattle.pq_gate.specs.Ring.{turn, turned, FitsI64}
 use Rattle.pq_gate.proofs.RangeLaws.{stored, stored_fits, stays, negated_twice, turned_by}
 use Rattle.pq_gate.proofs.ring.Ring.checked_omega.Goals as goal
