@@ -1,0 +1,9 @@
+pub mod BoundLaws
+mod ColumnLaws
+mod FaultLaws
+mod KindLaws
+pub mod LiftLaws
+mod PairLaws
+mod SearchLaws
+mod StateLaws
+mod TableLaws

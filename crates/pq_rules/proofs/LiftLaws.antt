@@ -1,0 +1,136 @@
+use Rattle.std.proofs.Common.{◌≡◌, ◌≢◌, ℕ, zero, suc, ◌<◌, Bool, true, false, not, cond, List, [], ◌∷◌, map, length, get_or, set, refl, ap, sym, subst, ◌∙◌, arith}
+use Rattle.std.proofs.lemmas.List.{length-set, set-set, set_comm, set-get_or, get_or-set_same, get_or-set_other}
+use Rattle.pq_gate.specs.declared.gate.Gate.{Gate}
+use Rattle.pq_gate.specs.declared.gate.Gate.TheVariants.{H, X, Phase, Cx}
+use Rattle.pq_gate.specs.declared.ring.Ring.{Ring}
+use Rattle.pq_gate.specs.Bits.{bit}
+use Rattle.pq_gate.specs.Circuit.{IsOnWires, IsCircuit}
+use Rattle.pq_gate.specs.Eighths.{eighths_of}
+use Rattle.pq_gate.specs.Ring.{plus, turned, turned_if, rooted}
+use Rattle.pq_gate.specs.Matrix.{through, roots_of, h_count, Same}
+use Rattle.pq_gate.proofs.ActLaws.{through_reads, Act}
+use Rattle.pq_gate.proofs.SameLaws.{Same-acts, Same-from_acts}
+use Rattle.pq_rules.specs.Renaming.{IsRenaming, renamed}
+
+-- the values of the renamed wires
+abbrev pub pulled : List ℕ → List Bool → List Bool
+pulled [] x = []
+pulled (w ∷ e) x = bit x w ∷ pulled e x
+
+-- the state with values written on the renamed wires
+abbrev pub pushed : List ℕ → List Bool → List Bool → List Bool
+pushed [] x z = x
+pushed (w ∷ e) x [] = x
+pushed (w ∷ e) x (p ∷ z) = set (pushed e x z) w p
+
+pub length-pulled : (e : List ℕ) (x : List Bool) → length (pulled e x) ≡ length e
+length-pulled [] x = refl
+length-pulled (w ∷ e) x = ap suc (length-pulled e x)
+
+pub length-pushed : (e : List ℕ) (x z : List Bool) → length (pushed e x z) ≡ length x
+length-pushed [] x z = refl
+length-pushed (w ∷ e) x [] = refl
+length-pushed (w ∷ e) x (p ∷ z) = length-set (pushed e x z) w p ∙ length-pushed e x z
+
+-- a state's own values change nothing
+pub pushed-pulled : (e : List ℕ) (x : List Bool) → pushed e x (pulled e x) ≡ x
+pushed-pulled [] x = refl
+pushed-pulled (w ∷ e) x = ap (λ (y : List Bool). set y w (bit x w)) (pushed-pulled e x) ∙ set-get_or x w false
+
+-- the wires after the first are renamed too
+renaming_tail : {m n : ℕ} {h : ℕ} {e : List ℕ} → IsRenaming (suc m) n (h ∷ e) → IsRenaming m n e
+renaming_tail {m} {n} {h} {e} is = record {
+  whole = (let all : suc (length e) ≡ suc m = is.whole in omega arith);
+  inside = λ w below. is.inside (suc w) (omega arith);
+  apart = λ v w v_below w_below same. (let all : suc v ≡ suc w = is.apart (suc v) (suc w) (omega arith) (omega arith) same in omega arith);
+}
+
+-- a later wire isn't led to where the first one is
+not_first : {m n : ℕ} {h : ℕ} {e : List ℕ} → IsRenaming (suc m) n (h ∷ e) → (w : ℕ) → w < m → get_or e w 0 ≢ h
+not_first {m} is w below same =
+    let all : suc w ≡ 0 = is.apart (suc w) 0 (omega arith) (omega arith) same in absurd (omega arith)
+
+-- a renamed wire has the value that was written
+pub bit-pushed : (m n : ℕ) (e : List ℕ) (x z : List Bool) → IsRenaming m n e → length x ≡ n → length z ≡ m →
+    (w : ℕ) → w < m → bit (pushed e x z) (get_or e w 0) ≡ bit z w
+bit-pushed zero n e x z is x_is z_is w below = absurd (omega arith)
+bit-pushed (suc m) n [] x z is x_is z_is w below = absurd (omega (arith, is.whole))
+bit-pushed (suc m) n (h ∷ e) x [] is x_is z_is w below = absurd (omega (arith, z_is))
+bit-pushed (suc m) n (h ∷ e) x (p ∷ z) is x_is z_is zero below =
+    get_or-set_same (pushed e x z) h p false
+    (let inside : h < n = is.inside 0 (omega arith) in omega (arith, length-pushed e x z))
+bit-pushed (suc m) n (h ∷ e) x (p ∷ z) is x_is z_is (suc w) below =
+    get_or-set_other (pushed e x z) h (get_or e w 0) p false (not_first is w (omega arith)) ∙
+    bit-pushed m n e x z (renaming_tail is) x_is (let all : suc (length z) ≡ suc m = z_is in omega arith) w (omega arith)
+
+-- a write on a renamed wire is a write of its value
+pub set-pushed : (m n : ℕ) (e : List ℕ) (x z : List Bool) → IsRenaming m n e → length x ≡ n → length z ≡ m →
+    (w : ℕ) (q : Bool) → w < m → set (pushed e x z) (get_or e w 0) q ≡ pushed e x (set z w q)
+set-pushed zero n e x z is x_is z_is w q below = absurd (omega arith)
+set-pushed (suc m) n [] x z is x_is z_is w q below = absurd (omega (arith, is.whole))
+set-pushed (suc m) n (h ∷ e) x [] is x_is z_is w q below = absurd (omega (arith, z_is))
+set-pushed (suc m) n (h ∷ e) x (p ∷ z) is x_is z_is zero q below = set-set (pushed e x z) h p q
+set-pushed (suc m) n (h ∷ e) x (p ∷ z) is x_is z_is (suc w) q below =
+    set_comm (pushed e x z) h (get_or e w 0) p q (λ same. not_first is w (omega arith) (sym same)) ∙
+    ap (λ (y : List Bool). set y h p)
+    (set-pushed m n e x z (renaming_tail is) x_is (let all : suc (length z) ≡ suc m = z_is in omega arith) w q (omega arith))
+
+module _ (m n : ℕ) (e : List ℕ) (is : IsRenaming m n e) (x : List Bool) (x_is : length x ≡ n) where
+  -- a renamed gate acts on the written values
+  through-renamed : (g : Gate) → IsOnWires m g → (f : List Bool → Ring) (z : List Bool) → length z ≡ m →
+      through (renamed e g) f (pushed e x z) ≡ through g (λ y. f (pushed e x y)) z
+  through-renamed (H w) on f z z_is =
+      λ i. plus (f (set-pushed m n e x z is x_is z_is w false on i))
+      (turned_if (bit-pushed m n e x z is x_is z_is w on i) 4 (f (set-pushed m n e x z is x_is z_is w true on i)))
+  through-renamed (X w) on f z z_is =
+      ap (λ (p : Bool). f (set (pushed e x z) (get_or e w 0) (not p))) (bit-pushed m n e x z is x_is z_is w on) ∙
+      ap f (set-pushed m n e x z is x_is z_is w (not (bit z w)) on)
+  through-renamed (Phase k w) on f z z_is =
+      ap (λ (p : Bool). turned_if p (eighths_of k) (f (pushed e x z))) (bit-pushed m n e x z is x_is z_is w on)
+  through-renamed (Cx c t) on f z z_is =
+      ap (λ (p : Bool). f (set (pushed e x z) (get_or e t 0) (cond p (not (bit (pushed e x z) (get_or e t 0))) (bit (pushed e x z) (get_or e t 0)))))
+      (bit-pushed m n e x z is x_is z_is c on.0) ∙
+      ap (λ (p : Bool). f (set (pushed e x z) (get_or e t 0) (cond (bit z c) (not p) p))) (bit-pushed m n e x z is x_is z_is t on.1) ∙
+      ap f (set-pushed m n e x z is x_is z_is t (cond (bit z c) (not (bit z t)) (bit z t)) on.1)
+
+  -- so do renamed circuits
+  pub Act-renamed : (p : List Gate) → IsCircuit m p → (f : List Bool → Ring) (z : List Bool) → length z ≡ m →
+      Act (map (renamed e) p) f (pushed e x z) ≡ Act p (λ y. f (pushed e x y)) z
+  Act-renamed [] all f z z_is = refl
+  Act-renamed (g ∷ p) all f z z_is =
+      through-renamed g all.0 (Act (map (renamed e) p) f) z z_is ∙
+      through_reads m g (λ y. Act (map (renamed e) p) f (pushed e x y)) (Act p (λ y. f (pushed e x y))) (Act-renamed p all.1 f) z z_is
+
+IsOnWires-renamed : {m n : ℕ} {e : List ℕ} → IsRenaming m n e → (g : Gate) → IsOnWires m g → IsOnWires n (renamed e g)
+IsOnWires-renamed is (H w) on = is.inside w on
+IsOnWires-renamed is (X w) on = is.inside w on
+IsOnWires-renamed is (Phase k w) on = is.inside w on
+IsOnWires-renamed is (Cx c t) on = (is.inside c on.0, is.inside t on.1, λ same. on.2 (is.apart c t on.0 on.1 same))
+
+-- a renamed circuit is a circuit
+pub IsCircuit-renamed : {m n : ℕ} {e : List ℕ} → IsRenaming m n e → (p : List Gate) → IsCircuit m p → IsCircuit n (map (renamed e) p)
+IsCircuit-renamed is [] all = tt
+IsCircuit-renamed is (g ∷ p) all = (IsOnWires-renamed is g all.0, IsCircuit-renamed is p all.1)
+
+roots_of-renamed : (e : List ℕ) (g : Gate) → roots_of (renamed e g) ≡ roots_of g
+roots_of-renamed e (H w) = refl
+roots_of-renamed e (X w) = refl
+roots_of-renamed e (Phase k w) = refl
+roots_of-renamed e (Cx c t) = refl
+
+pub h_count-renamed : (e : List ℕ) (p : List Gate) → h_count (map (renamed e) p) ≡ h_count p
+h_count-renamed e [] = refl
+h_count-renamed e (g ∷ p) = omega (arith, roots_of-renamed e g, h_count-renamed e p)
+
+-- circuits of one matrix, up to a phase, stay so under each renaming
+pub same_renamed : (m n k : ℕ) (e : List ℕ) (p q : List Gate) → IsRenaming m n e → Same m p q k →
+    Same n (map (renamed e) p) (map (renamed e) q) k
+same_renamed m n k e p q is same =
+    Same-from_acts (IsCircuit-renamed is p same.left) (IsCircuit-renamed is q same.right)
+    (λ f x x_is.
+    let z_is : length (pulled e x) ≡ m = length-pulled e x ∙ is.whole in
+    let at = λ (c : List Gate) (all : IsCircuit m c). subst (λ (y : List Bool). Act (map (renamed e) c) f y ≡ Act c (λ y. f (pushed e x y)) (pulled e x))
+    (pushed-pulled e x) (Act-renamed m n e is x x_is c all f (pulled e x) z_is) in
+    (λ i. rooted (h_count-renamed e q i) (at p same.left i)) ∙
+    Same-acts same (λ y. f (pushed e x y)) (pulled e x) z_is ∙
+    sym (λ i. turned k (rooted (h_count-renamed e p i) (at q same.right i))))

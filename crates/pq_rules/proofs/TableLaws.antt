@@ -1,0 +1,182 @@
+use Rattle.std.proofs.Common.{◌≡◌, ℕ, zero, suc, ◌^◌, ◌<◌, ◌≤◌, Bool, true, false, ◌&&◌, ◌||◌, eqb, ltb, leb, not, ◌⊎◌, List, [], ◌∷◌, length, get_or, map, inl, inr, refl, ap, sym, subst, eq-eqb, arith}
+use Rattle.std.specs.Prelude.{ℤ, pos, negsuc}
+use Rattle.std.proofs.lemmas.Bool.{ltb-true, leb-true, eqb-true}
+use Rattle.pq_gate.specs.declared.gate.Gate.{Gate}
+use Rattle.pq_gate.specs.declared.gate.Gate.TheVariants.{H, X, Phase, Cx}
+use Rattle.pq_gate.specs.declared.ring.Ring.{Ring}
+use Rattle.pq_gate.specs.Circuit.{IsOnWires, IsCircuit}
+use Rattle.pq_gate.specs.Commuting.{Touches}
+use Rattle.pq_gate.specs.Matrix.{Entry, h_count, Same}
+use Rattle.pq_gate.specs.Ring.{nought, one, plus, turn, root, turned, rooted}
+use Rattle.pq_gate.proofs.RingLaws.{same_numbers}
+use Rattle.pq_rules.specs.declared.table.Shape.{Shape}
+use Rattle.pq_rules.specs.declared.table.TheConstants.{GATES, SHAPES}
+use Rattle.pq_rules.specs.Agreement.{AgreesAt}
+use Rattle.pq_rules.specs.Row.{RowView, Uses, IsSound}
+use Rattle.pq_rules.specs.Shapes.{shape_row}
+use Rattle.pq_rules.specs.States.{state}
+use Rattle.pq_rules.specs.Table.{builtin_rows}
+use Rattle.pq_rules.proofs.PairLaws.{number, state-number, number-below}
+use Rattle.pq_rules.proofs.StateLaws.{all_below, all_below-at, both}
+
+abbrev all_true : {A : Type 0} → (A → Bool) → List A → Bool
+all_true p [] = true
+all_true p (x ∷ xs) = p x && all_true p xs
+
+all_true-at : {A : Type 0} (p : A → Bool) (xs : List A) → all_true p xs ≡ true → (i : ℕ) (d : A) → i < length xs → p (get_or xs i d) ≡ true
+all_true-at p [] all i d inside = absurd (omega arith)
+all_true-at p (x ∷ xs) all zero d inside = (both (p x) _ all).0
+all_true-at p (x ∷ xs) all (suc i) d inside = all_true-at p xs (both (p x) _ all).1 i d (omega arith)
+
+abbrev same_number : ℤ → ℤ → Bool
+same_number (pos m) (pos n) = eqb m n
+same_number (negsuc m) (negsuc n) = eqb m n
+same_number (pos m) (negsuc n) = false
+same_number (negsuc m) (pos n) = false
+
+same_number-true : (y z : ℤ) → same_number y z ≡ true → y ≡ z
+same_number-true (pos m) (pos n) is = ap pos (eqb-true m n is)
+same_number-true (negsuc m) (negsuc n) is = ap negsuc (eqb-true m n is)
+same_number-true (pos m) (negsuc n) is = absurd (cc)
+same_number-true (negsuc m) (pos n) is = absurd (cc)
+
+abbrev same_ring : Ring → Ring → Bool
+same_ring r s = same_number r.a s.a && (same_number r.b s.b && (same_number r.c s.c && same_number r.d s.d))
+
+same_ring-true : (r s : Ring) → same_ring r s ≡ true → r ≡ s
+same_ring-true r s is =
+    let first = both _ _ is in
+    let second = both _ _ first.1 in
+    let third = both _ _ second.1 in
+    same_numbers r s (same_number-true _ _ first.0) (same_number-true _ _ second.0) (same_number-true _ _ third.0) (same_number-true _ _ third.1)
+
+abbrev on_wires : ℕ → Gate → Bool
+on_wires n (H w) = ltb w n
+on_wires n (X w) = ltb w n
+on_wires n (Phase k w) = ltb w n
+on_wires n (Cx c t) = ltb c n && (ltb t n && not (eqb c t))
+
+differ : (c t : ℕ) → not (eqb c t) ≡ true → c ≡ t → ⊥
+differ c t is same = (let e : not (eqb c c) ≡ true = subst (λ (u : ℕ). not (eqb c u) ≡ true) (sym same) is in let s : eqb c c ≡ true = eq-eqb c c refl in absurd (cc))
+
+on_wires-true : (n : ℕ) (g : Gate) → on_wires n g ≡ true → IsOnWires n g
+on_wires-true n (H w) is = ltb-true w n is
+on_wires-true n (X w) is = ltb-true w n is
+on_wires-true n (Phase k w) is = ltb-true w n is
+on_wires-true n (Cx c t) is =
+    let first = both _ _ is in
+    let second = both _ _ first.1 in (ltb-true c n first.0, ltb-true t n second.0, differ c t second.1)
+
+circuit_true : (n : ℕ) (gates : List Gate) → all_true (on_wires n) gates ≡ true → IsCircuit n gates
+circuit_true n [] is = tt
+circuit_true n (g ∷ gates) is = (on_wires-true n g (both _ _ is).0, circuit_true n gates (both _ _ is).1)
+
+abbrev touching : ℕ → Gate → Bool
+touching w (H wire) = eqb w wire
+touching w (X wire) = eqb w wire
+touching w (Phase k wire) = eqb w wire
+touching w (Cx c t) = eqb w c || eqb w t
+
+either : (p q : Bool) → p || q ≡ true → (p ≡ true) ⊎ (q ≡ true)
+either true q is = inl refl
+either false q is = inr is
+
+touching-true : (w : ℕ) (g : Gate) → touching w g ≡ true → Touches g w
+touching-true w (H wire) is = eqb-true w wire is
+touching-true w (X wire) is = eqb-true w wire is
+touching-true w (Phase k wire) is = eqb-true w wire is
+touching-true w (Cx c t) is = elim (either _ _ is) [ inl one ↦ inl (eqb-true w c one) | inr other ↦ inr (eqb-true w t other) ]
+
+abbrev any_touching : ℕ → List Gate → Bool
+any_touching w [] = false
+any_touching w (g ∷ gates) = touching w g || any_touching w gates
+
+uses_later : (w : ℕ) (g : Gate) (gates : List Gate) → Uses gates w → Uses (g ∷ gates) w
+uses_later w g gates uses = (suc uses.0, uses.1, omega (arith, uses.2), uses.3, uses.4)
+
+uses_true : (w : ℕ) (gates : List Gate) → any_touching w gates ≡ true → Uses gates w
+uses_true w [] is = absurd (cc)
+uses_true w (g ∷ gates) is = elim (either (touching w g) _ is) [
+  | inl here ↦ (0, g, omega arith, refl, touching-true w g here)
+  | inr later ↦ uses_later w g gates (uses_true w gates later)
+]
+
+-- the entries agree from one state to another
+abbrev agree_test : RowView → ℕ → ℕ → Bool
+agree_test row f t = same_ring
+    (rooted (h_count row.replacement) (Entry row.pattern (state row.wires f) (state row.wires t)))
+    (turned row.phase (rooted (h_count row.pattern) (Entry row.replacement (state row.wires f) (state row.wires t))))
+
+-- all that makes a row sound, as a test
+abbrev row_test : RowView → Bool
+row_test row = leb 1 row.wires && (leb row.wires 3 && (leb (length row.pattern) 8 && (ltb (length row.replacement) (length row.pattern) &&
+    (leb row.phase 7 && (all_true (on_wires row.wires) row.pattern && (all_true (on_wires row.wires) row.replacement &&
+    (all_below row.wires (λ w. any_touching w row.pattern) &&
+    all_below (2 ^ row.wires) (λ f. all_below (2 ^ row.wires) (λ t. agree_test row f t)))))))))
+
+same_of_agrees : (row : RowView) → IsCircuit row.wires row.pattern → IsCircuit row.wires row.replacement →
+    ((f t : ℕ) → f < 2 ^ row.wires → t < 2 ^ row.wires → AgreesAt row row.phase f t) →
+    Same row.wires row.pattern row.replacement row.phase
+same_of_agrees row left right agree = record {
+  left = left;
+  right = right;
+  entries = λ x y x_is y_is.
+      let x_in : number x < 2 ^ row.wires = subst (λ (n : ℕ). number x < 2 ^ n) x_is (number-below x) in
+      let y_in : number y < 2 ^ row.wires = subst (λ (n : ℕ). number y < 2 ^ n) y_is (number-below y) in
+      let x_at : state row.wires (number x) ≡ x = subst (λ (n : ℕ). state n (number x) ≡ x) x_is (state-number x) in
+      let y_at : state row.wires (number y) ≡ y = subst (λ (n : ℕ). state n (number y) ≡ y) y_is (state-number y) in
+      subst (λ (z : List Bool). rooted (h_count row.replacement) (Entry row.pattern x z) ≡ turned row.phase (rooted (h_count row.pattern) (Entry row.replacement x z))) y_at
+      (subst (λ (z : List Bool). rooted (h_count row.replacement) (Entry row.pattern z (state row.wires (number y))) ≡ turned row.phase (rooted (h_count row.pattern) (Entry row.replacement z (state row.wires (number y))))) x_at
+      (agree (number x) (number y) x_in y_in));
+}
+
+sound_of_test : (row : RowView) → row_test row ≡ true → IsSound row
+sound_of_test row is =
+    let a = both _ _ is in
+    let b = both _ _ a.1 in
+    let c = both _ _ b.1 in
+    let d = both _ _ c.1 in
+    let e = both _ _ d.1 in
+    let f = both _ _ e.1 in
+    let g = both _ _ f.1 in
+    let h = both _ _ g.1 in
+    let left = circuit_true row.wires row.pattern f.0 in
+    let right = circuit_true row.wires row.replacement g.0 in
+    record {
+      some = leb-true _ _ a.0;
+      few = leb-true _ _ b.0;
+      short = leb-true _ _ c.0;
+      used = λ w below. uses_true w row.pattern (all_below-at row.wires (λ w. any_touching w row.pattern) h.0 w below);
+      shorter = ltb-true _ _ d.0;
+      turn = leb-true _ _ e.0;
+      same = same_of_agrees row left right (λ f t f_in t_in. same_ring-true _ _
+          (all_below-at (2 ^ row.wires) (λ t. agree_test row f t)
+          (all_below-at (2 ^ row.wires) (λ f. all_below (2 ^ row.wires) (λ t. agree_test row f t)) h.1 f f_in) t t_in));
+    }
+
+rows_pass : all_true (λ (s : Shape). row_test (shape_row GATES s)) SHAPES ≡ true
+unfolding nought one plus turn root
+rows_pass = refl
+
+-- each shape gives a sound row
+pub shape_sound : (i : ℕ) (d : Shape) → i < 52 → IsSound (shape_row GATES (get_or SHAPES i d))
+shape_sound i d inside = sound_of_test (shape_row GATES (get_or SHAPES i d)) (all_true-at (λ (s : Shape). row_test (shape_row GATES s)) SHAPES rows_pass i d inside)
+
+abbrev inside_test : Shape → Bool
+inside_test s = leb s.start s.middle && (leb s.middle s.end && leb s.end (length GATES))
+
+shapes_inside : all_true inside_test SHAPES ≡ true
+shapes_inside = refl
+
+-- its places are in order, and inside
+pub shape_inside : (i : ℕ) (d : Shape) → i < 52 →
+    ((get_or SHAPES i d).start ≤ (get_or SHAPES i d).middle) × ((get_or SHAPES i d).middle ≤ (get_or SHAPES i d).end) × ((get_or SHAPES i d).end ≤ length GATES)
+shape_inside i d inside =
+    let all : inside_test (get_or SHAPES i d) ≡ true = all_true-at inside_test SHAPES shapes_inside i d inside in
+    let a = both _ _ all in
+    let b = both _ _ a.1 in (leb-true _ _ a.0, leb-true _ _ b.0, leb-true _ _ b.1)
+
+-- the shapes give the rows of the table
+pub shapes_are_rows : map (shape_row GATES) SHAPES ≡ builtin_rows
+unfolding builtin_rows
+shapes_are_rows = refl

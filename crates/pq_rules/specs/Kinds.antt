@@ -1,0 +1,28 @@
+use Rattle.std.specs.Prelude.{ℕ, zero, suc, ◌+◌, ◌==◌, Bool, false, cond, List, [], ◌∷◌, Option, None, slice_get}
+use Rattle.pq_gate.specs.declared.gate.Gate.{Gate}
+use Rattle.pq_gate.specs.declared.gate.Gate.TheVariants.{H, X, Phase, Cx}
+use Rattle.pq_gate.specs.Eighths.{eighths_of}
+use Rattle.pq_rules.specs.Row.{RowView}
+
+-- The kind of a gate, as a number: H, X, CX, and each number of eighths, are kinds of their own.
+abbrev pub kind_of : Gate → ℕ
+kind_of (H wire) = 0
+kind_of (X wire) = 1
+kind_of (Cx control target) = 2
+kind_of (Phase eighths wire) = 2 + eighths_of eighths
+
+-- the list begins with a gate of this kind
+abbrev pub begins : ℕ → List Gate → Bool
+begins kind [] = false
+begins kind (gate ∷ rest) = kind_of gate == kind
+
+-- the numbers, ascending, of the rows whose first gate is of this kind, where the first row has the number `first`
+abbrev pub numbers_starting : ℕ → ℕ → List RowView → List ℕ
+numbers_starting kind first [] = []
+numbers_starting kind first (row ∷ rows) =
+    cond (begins kind row.pattern) (first ∷ numbers_starting kind (first + 1) rows) (numbers_starting kind (first + 1) rows)
+
+-- the row of this number, where the first row has the number 1
+abbrev pub row_numbered : List RowView → ℕ → Option RowView
+row_numbered rows zero = None
+row_numbered rows (suc k) = slice_get rows k

@@ -1,0 +1,12 @@
+pub use Rattle.pq_list.specs.Roomed
+pub mod Agreement
+pub mod Bounds
+pub mod Columns
+pub mod Fault
+pub mod Kinds
+pub mod Pairs
+pub mod Renaming
+pub mod Row
+pub mod Shapes
+pub mod States
+pub mod Table

@@ -1,0 +1,14 @@
+//! Rewriting rules for Clifford+T circuits, their check, and the built-in rules.
+#![tactic(auto)]
+
+mod check;
+mod column;
+mod compare;
+pub mod laws;
+mod row;
+mod rules;
+mod table;
+
+pub use check::check_row;
+pub use row::{RawRow, Row, RowFault};
+pub use rules::Rules;

@@ -1,0 +1,95 @@
+ghost use Rattle.std.specs.Prelude.{◌≡◌};
+ghost use Rattle.pq_rules.specs.Row.{IsSound};
+
+use pq_gate::{Gate, GateList};
+use std::marker::Model;
+
+/// A row that nobody has checked: on so many wires, numbered from 0, the pattern is to be replaced by
+/// the replacement.
+#[derive(Drop)]
+pub struct RawRow {
+    pub wires: u8,
+    pub pattern: GateList,
+    pub replacement: GateList,
+}
+
+/// Why a raw row is no row.
+#[derive(Clone, Copy, Debug, PartialEq, Eq, Drop)]
+pub enum RowFault {
+    /// There aren't 1 to 3 wires, or a gate names another wire, or a CX has one wire twice, or the
+    /// pattern leaves out a wire.
+    Wires,
+
+    /// The pattern has more than 8 gates.
+    TooLong,
+
+    /// The replacement has at least as many gates as the pattern.
+    NotShorter,
+
+    /// The matrices differ by more than a phase. This is the first pair of basis states, in ascending
+    /// order of `from`, then of `to`, such that no single phase makes the entries of all pairs up to
+    /// and with it agree. Bit w of a basis state's number is the value of wire w.
+    Differs { from: u8, to: u8 },
+}
+
+/// A sound row: on its wires the pattern's matrix is ω^phase times the replacement's, where ω is the
+/// eighth root of unity e^(iπ/4), and the replacement is shorter.
+#[derive(Drop)]
+pub struct Row {
+    raw: RawRow,
+    phase: u8,
+}
+
+impl Model for Row {
+    ghost use Rattle.pq_rules.specs.Row.{RowView};
+
+    ghost Value = { RowView };
+
+    ghost use Rattle.pq_rules.specs.Row.{IsSound};
+
+    ghost view = { λ a. record { wires = a.raw.wires; pattern = a.raw.pattern.items; replacement = a.raw.replacement.items; phase = a.phase } };
+
+    ghost invariant = { λ a. IsSound (record { wires = a.raw.wires; pattern = a.raw.pattern.items; replacement = a.raw.replacement.items; phase = a.phase }) };
+}
+
+impl Row {
+    // the raw row with its phase
+    pub(crate) fn checked(raw: RawRow, phase: u8) -> Row
+        requires { IsSound (record { wires = raw.wires; pattern = raw.pattern.items; replacement = raw.replacement.items; phase = phase }) }
+        ensures { result ≡ record { wires = raw.wires; pattern = raw.pattern.items; replacement = raw.replacement.items; phase = phase } }
+    {
+        Row { raw, phase }
+    }
+
+    /// How many eighths of a whole turn the pattern turns by more than the replacement, from 0 to 7.
+    pub fn phase(&self) -> u8
+        ensures phase { result ≡ self.now.phase }
+        ensures sound { IsSound self.now }
+    {
+        self.phase
+    }
+
+    /// The gates that may be replaced.
+    pub fn pattern(&self) -> &[Gate]
+        ensures pattern { result.now ≡ self.now.pattern }
+        ensures sound { IsSound self.now }
+    {
+        self.raw.pattern.as_slice()
+    }
+
+    /// The gates that may stand in their place.
+    pub fn replacement(&self) -> &[Gate]
+        ensures replacement { result.now ≡ self.now.replacement }
+        ensures sound { IsSound self.now }
+    {
+        self.raw.replacement.as_slice()
+    }
+
+    /// The number of wires, from 1 to 3.
+    pub fn wires(&self) -> u8
+        ensures wires { result ≡ self.now.wires }
+        ensures sound { IsSound self.now }
+    {
+        self.raw.wires
+    }
+}

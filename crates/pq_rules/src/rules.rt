@@ -1,0 +1,191 @@
+ghost use Rattle.std.specs.Prelude.{◌≡◌, ℕ, ◌+◌, ◌<◌, ◌≤◌, ◌++◌, [], ◌∷◌, cond, length, map, IfOk, IfSome, slice_index_or, vec_len};
+ghost use Rattle.std.specs.Option.{option_copied};
+ghost use Rattle.pq_rules.specs.Kinds.{kind_of, begins, numbers_starting, row_numbered};
+ghost use Rattle.pq_rules.specs.Row.{RowView, IsSound};
+ghost use Rattle.pq_rules.specs.Shapes.{shape_row};
+ghost use Rattle.pq_rules.specs.Table.{builtin_rows};
+
+use crate::row::{RawRow, Row};
+use crate::table::{GATES, SHAPES, Shape};
+use pq_gate::{Eighths, Gate, GateList};
+use std::alloc::{AllocError, Global};
+use std::marker::Model;
+
+// how many numbers there are for kinds of gates
+const KINDS: u8 = 10;
+
+/// Sound rows, numbered from 1, with an index by the kind of their first gate. Contracts see the list
+/// of the rows.
+#[derive(Drop)]
+pub struct Rules {
+    rows: Vec<Row>,
+
+    // for each kind, the numbers of the rows that start with it
+    starting: Vec<Vec<u32>>,
+}
+
+impl Model for Rules {
+    ghost use Rattle.std.specs.Prelude.{ℕ, List};
+    ghost use Rattle.pq_rules.specs.Row.{RowView};
+
+    ghost Value = { List RowView };
+
+    ghost use Rattle.std.specs.Prelude.{◌≡◌, ◌<◌, ◌≤◌, slice_index_or, vec_len};
+    ghost use Rattle.pq_rules.specs.Kinds.{numbers_starting};
+
+    ghost view = { λ a. a.rows.items };
+
+    ghost invariant = { λ a. (vec_len a.rows ≤ 308) × (vec_len a.starting ≡ 10) ×
+        ((k : ℕ) (d : _) → k < 10 → (slice_index_or a.starting.items k d).items ≡ numbers_starting k 1 a.rows.items) };
+}
+
+impl Rules {
+    /// The 52 built-in rows.
+    pub fn builtin(alloc: Global) -> Result<Rules, AllocError>
+        ensures rows { IfOk result (λ rules. rules ≡ builtin_rows) }
+        ensures count { IfOk result (λ rules. length rules ≡ 52) }
+    {
+        let mut rows = Vec::with_capacity(alloc, SHAPES.len())?;
+        for shape in &SHAPES {
+            rows.push_reserved(row_of(alloc, shape)?);
+        }
+        Rules::of(alloc, rows)
+    }
+
+    /// These rules, and the extra rows behind them.
+    pub fn with(self, alloc: Global, extra: Vec<Row>) -> Result<Rules, AllocError>
+        requires { length self + vec_len extra ≤ 308 }
+        ensures { IfOk result (λ rules. rules ≡ self ++ extra.items) }
+    {
+        let Rules {
+            mut rows,
+            starting: _,
+        } = self;
+        let mut extra = extra;
+        rows.append(&mut extra)?;
+        Rules::of(alloc, rows)
+    }
+
+    // the rules with these rows
+    fn of(alloc: Global, rows: Vec<Row>) -> Result<Rules, AllocError>
+        requires { vec_len rows ≤ 308 }
+        ensures { IfOk result (λ rules. rules ≡ rows.items) }
+    {
+        let starting = index_of(alloc, rows.as_slice())?;
+        Ok(Rules { rows, starting })
+    }
+
+    /// How many rows there are.
+    pub fn count(&self) -> u32
+        ensures { result ≡ length self.now }
+    {
+        self.rows.len() as u32
+    }
+
+    /// The row with this number, counted from 1. None exactly where there is no such row.
+    pub fn row(&self, number: u32) -> Option<&Row>
+        ensures row { option_copied result ≡ row_numbered self.now number }
+        ensures sound { IfSome result (λ row. IsSound row.now) }
+    {
+        if number == 0 {
+            return None;
+        }
+        match self.rows.get(number as usize - 1) {
+            Some(row) => {
+                let _phase = row.phase();
+                Some(row)
+            }
+            None => None,
+        }
+    }
+
+    /// The numbers, ascending, of the rows whose first gate is of this gate's kind: for a phase, of the
+    /// same eighths.
+    pub fn rows_starting(&self, gate: Gate) -> &[u32]
+        ensures { result.now ≡ numbers_starting (kind_of gate) 1 self.now }
+    {
+        self.starting[kind(gate) as usize].as_slice()
+    }
+}
+
+// the kind of a gate
+fn kind(gate: Gate) -> u8
+    ensures kind { result ≡ kind_of gate }
+    ensures few { result < 10 }
+{
+    match gate {
+        Gate::H { .. } => 0,
+        Gate::X { .. } => 1,
+        Gate::Cx { .. } => 2,
+        Gate::Phase { eighths, .. } => match eighths {
+            Eighths::T => 3,
+            Eighths::S => 4,
+            Eighths::Z => 6,
+            Eighths::Sdg => 8,
+            Eighths::Tdg => 9,
+        },
+    }
+}
+
+// whether the row's pattern starts with a gate of this kind
+fn starts(row: &Row, of_kind: u8) -> bool
+    ensures { result ≡ begins of_kind row.now.pattern }
+{
+    match row.pattern() {
+        [first, ..] => kind(*first) == of_kind,
+        [] => false,
+    }
+}
+
+// appends the number where it is wanted
+fn push_where(numbers: &mut Vec<u32>, number: u32, wanted: bool) -> Result<(), AllocError>
+    ensures { IfOk result (λ _. numbers.new.items ≡ numbers.old.items ++ cond wanted (number ∷ []) []) }
+{
+    if wanted {
+        numbers.push(number)?;
+    }
+    Ok(())
+}
+
+// the numbers of the rows that start with a gate of this kind
+fn numbers_of(alloc: Global, rows: &[Row], of_kind: u8) -> Result<Vec<u32>, AllocError>
+    requires { length rows.now ≤ 308 }
+    ensures { IfOk result (λ numbers. numbers.items ≡ numbers_starting of_kind 1 rows.now) }
+{
+    let mut numbers = Vec::new(alloc);
+    let mut number = 1;
+    for row in rows {
+        push_where(&mut numbers, number, starts(row, of_kind))?;
+        number += 1;
+    }
+    Ok(numbers)
+}
+
+// the same for each kind
+fn index_of(alloc: Global, rows: &[Row]) -> Result<Vec<Vec<u32>>, AllocError>
+    requires { length rows.now ≤ 308 }
+    ensures len { IfOk result (λ index. vec_len index ≡ 10) }
+    ensures numbers { IfOk result (λ index. (k : ℕ) (d : _) → k < 10 → (slice_index_or index.items k d).items ≡ numbers_starting k 1 rows.now) }
+{
+    let mut index = Vec::with_capacity(alloc, KINDS as usize)?;
+    for of_kind in 0..KINDS {
+        index.push_reserved(numbers_of(alloc, rows, of_kind)?);
+    }
+    Ok(index)
+}
+
+// the row whose sides stand at the places of a shape
+fn row_of(alloc: Global, shape: &Shape) -> Result<Row, AllocError>
+    requires sound { IsSound (shape_row GATES shape.now) }
+    requires inside { (shape.now.start ≤ shape.now.middle) × (shape.now.middle ≤ shape.now.end) × (shape.now.end ≤ length GATES) }
+    ensures { IfOk result (λ row. row ≡ shape_row GATES shape.now) }
+{
+    let pattern = Vec::from_slice(alloc, &GATES[shape.start..shape.middle])?;
+    let replacement = Vec::from_slice(alloc, &GATES[shape.middle..shape.end])?;
+    let raw = RawRow {
+        wires: shape.wires,
+        pattern: GateList::of(pattern),
+        replacement: GateList::of(replacement),
+    };
+    Ok(Row::checked(raw, shape.phase))
+}
