@@ -1,3 +1,4 @@
 pub mod Token
 pub mod Front
 pub mod Lex
+pub mod Added

@@ -1,4 +1,5 @@
-ghost use Rattle.std.specs.Prelude.{◌≡◌, ◌≤◌, length};
+ghost use Rattle.std.specs.Prelude.{◌≡◌, ◌≤◌, length, List, ℕ};
+ghost use Rattle.pq_lex.specs.Added.{ChangesLater};
 ghost use Rattle.pq_lex.specs.Lex.{Position, tokens};
 ghost use Rattle.pq_lex.specs.declared.token.Form.{Form};
 ghost use Rattle.pq_lex.specs.Token.{number_of};
@@ -11,4 +12,10 @@ pub fn forms_have_numbers()
 /// A text always has a token, if only the missing one at its end.
 pub fn texts_have_tokens()
     ensures { (p : Position) → 1 ≤ length (tokens p) }
+{}
+
+/// Bytes that are added at the end of a text change only what stands after: what is skipped at the front, if
+/// a byte follows it, and the token at the front, if it isn't malformed and three bytes follow it, stay.
+pub fn added_bytes_change_what_follows()
+    ensures { (p : Position) (more : List ℕ) → ChangesLater p more }
 {}
