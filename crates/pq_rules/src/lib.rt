@@ -5,6 +5,8 @@ mod check;
 mod column;
 mod compare;
 pub mod laws;
+#[cfg(test)]
+mod near_misses;
 mod row;
 mod rules;
 mod table;
