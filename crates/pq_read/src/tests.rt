@@ -169,6 +169,10 @@ fn each_kind_once_more(rt: HostRuntime) {
         ("OPENQASM 2.0;\ncreg c[00];", (13, 2, 8)),
         ("OPENQASM 2.0;\nqreg q[4000];\nqreg r[97];", (14, 3, 8)),
         ("OPENQASM 2.0;\ncreg c[4096];\ncreg d[1];", (16, 3, 8)),
+        (
+            "OPENQASM 2.0;\ncreg bbbbbbbbbbbbbbbbbbbbbbbbbbbbbbbbbbbbbbbbbbbbbbbbbbbbbbbbbbbbbbbbb[1];",
+            (18, 2, 6),
+        ),
     ] {
         assert_eq!(rt; told(rt.alloc(), text.as_bytes(), false), Some(want));
     }
@@ -192,6 +196,19 @@ fn limits_are_reached(rt: HostRuntime) -> Result<(), AllocError> {
     assert_eq!(rt;
         told_lines(alloc, "qreg q[4096];\n", "barrier q;\n", 257)?,
         Some((17, 260, 10))
+    );
+    assert_eq!(rt;
+        told_lines(alloc, "qreg q[4096];\n", "y q;\n", 86)?,
+        Some((15, 89, 4))
+    );
+    assert_eq!(rt;
+        told_lines(
+            alloc,
+            "qreg q[4096];\ncreg c[4096];\n",
+            "measure q -> c;\n",
+            257
+        )?,
+        Some((17, 261, 15))
     );
     Ok(())
 }
