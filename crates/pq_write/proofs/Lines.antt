@@ -1,0 +1,80 @@
+-- The reader goes over the lines of a canonical text.
+use Rattle.std.proofs.Common.{◌≡◌, ℕ, ◌+◌, ◌<◌, ◌≤◌, Bool, true, false, not, ◌&&◌, ◌||◌, ◌==◌, nat_lt, ltb, cond, List, [], ◌∷◌, ◌++◌, length, map, get_or, All, Option, Some, None, Result, Ok, Err, codes, decimal, bytes_eq, refl, sym, ap, ◌∙◌, subst, inl, inr, arith, append_assoc}
+use Rattle.std.specs.List.{AllByRecursion, list_all}
+use Rattle.std.specs.Option.{is_some}
+use Rattle.std.specs.Char.{is_ascii_digit}
+use Rattle.std.specs.Str.Parse.{AllDigits, digits_value}
+use Rattle.std.proofs.lemmas.Bool.{false≢true}
+use Rattle.std.proofs.lemmas.Bool.Decides.{nat_tests}
+use Rattle.std.proofs.lemmas.List.Elements.{All-head, All-tail}
+use Rattle.std.proofs.lemmas.List.Sums.{list_all-from_AllPass}
+use Rattle.std.proofs.lemmas.Str.Parse.{digit_at}
+use Rattle.std.proofs.lemmas.Fmt.{decimal_is_IsNumeral}
+use Rattle.std.proofs.lemmas.Slice.Eq.{bytes_eq-Decides}
+use borrow.Author.Tests.{le-ltb}
+use Rattle.pq_lex.specs.declared.token.Form.TheVariants.{Word, Number, Comma, LeftBracket, RightBracket, Semicolon, Arrow}
+use Rattle.pq_lex.specs.Token.{TokenView}
+use Rattle.pq_gate.specs.declared.gate.Gate.{Gate}
+use Rattle.pq_gate.specs.declared.gate.Gate.TheVariants as gates
+use Rattle.pq_gate.specs.declared.gate.Eighths.{Eighths}
+use Rattle.pq_gate.specs.declared.gate.Eighths.TheVariants.{T, S, Z, Sdg, Tdg}
+use Rattle.pq_text.specs.Program.{RegisterView, TailView, Barrier, Measure, ProgramView, places_of}
+use Rattle.pq_text.specs.Print.{gate_word, gate_arguments}
+use Rattle.pq_text.specs.WellFormed.{IsRegister}
+use Rattle.pq_read.specs.declared.refusal.Kind.{Kind}
+use Rattle.pq_read.specs.declared.refusal.Kind.TheVariants.{Syntax, RepeatedName, NameTooLong, TooManyQubits, TooManyBits}
+use Rattle.pq_read.specs.declared.refusal.Refusal.{Refusal}
+use Rattle.pq_read.specs.declared.program.Options.{Options}
+use Rattle.pq_read.specs.declared.argument.Span.{Span}
+use Rattle.pq_read.specs.Faults.{◌>>=◌, refused, integer_at, value_of}
+use Rattle.pq_read.specs.Words.{is_name}
+use Rattle.pq_read.specs.Environment.{Env, start, span_from}
+use Rattle.pq_read.specs.After.{header_at, include_at, is_taken, new_name, new_size, declared_at, put, with_qreg, with_creg, statement_at, piece_at, after}
+use Rattle.pq_read.proofs.Names.{lawful_is_name}
+use Rattle.pq_read.proofs.Circuits.{all_append}
+use Rattle.pq_read.proofs.Sizes.{size_fits}
+use Rattle.pq_write.proofs.Shapes.{Shape, shape, shape_of, comma, semicolon, arrow, header_shapes, include_shapes, indexed_shapes, place_shapes, register_shapes, joined_shapes, statement_shapes, gate_shapes, tail_shapes}
+use Rattle.pq_write.proofs.Steps.{Steps}
+use Rattle.pq_write.proofs.Frame.{IsInner, IsLine, ends_after, steps_by, placed, placed_all}
+
+-- what has been read after the header, and after the include
+abbrev pub begun : Env
+begun = record { header = true; included = false; program = start.program }
+
+abbrev pub reading : ProgramView → Env
+reading p = record { header = true; included = true; program = p }
+
+pub header_steps : (options : Options) → Steps options header_shapes start begun
+unfolding piece_at header_at
+header_steps options =
+    steps_by options start begun header_shapes (record { ends = (refl, (refl, refl)); other = refl })
+    (placed_all header_shapes (λ (front : List TokenView). after options start front ≡ Ok begun) (λ l1 c1 l2 c2 l3 c3. refl))
+
+pub include_steps : (options : Options) → Steps options include_shapes begun (reading start.program)
+unfolding piece_at statement_at include_at
+include_steps options =
+    steps_by options begun (reading start.program) include_shapes (record { ends = (refl, (refl, refl)); other = refl })
+    (placed_all include_shapes (λ (front : List TokenView). after options begun front ≡ Ok (reading start.program)) (λ l1 c1 l2 c2 l3 c3. refl))
+
+-- a name that no register has
+pub not_found : (regs : List RegisterView) (first : ℕ) (name : List ℕ) → All (λ q. q.name ≡ name → ⊥) regs → is_some (span_from first regs name) ≡ false
+not_found [] first name h = refl
+not_found (r ∷ rs) first name h =
+    elim (bytes_eq r.name name) as (λ b. bytes_eq r.name name ≡ b → is_some (cond b (Some (let s : Span = record { first = first; size = r.size } in s)) (span_from (first + r.size) rs name)) ≡ false) [
+      | true ↦ λ is. absurd (All-head (λ q. q.name ≡ name → ⊥) r rs h ((bytes_eq-Decides r.name name).0 is))
+      | false ↦ λ is. not_found rs (first + r.size) name (All-tail (λ q. q.name ≡ name → ⊥) r rs h)
+    ] refl
+
+pub free_name : (qregs cregs : List RegisterView) (t : TokenView) → is_name t.bytes ≡ true → length t.bytes ≤ 64 → is_taken qregs cregs t.bytes ≡ false
+    → new_name qregs cregs t ≡ Ok t.bytes
+free_name qregs cregs t named short free =
+    let s : nat_lt 64 (length t.bytes) ≡ false = le-ltb 64 (length t.bytes) short in
+    λ i. let r : Result (List ℕ) Refusal = cond (not (named i)) (Err (refused Syntax t)) (cond (s i) (Err (refused NameTooLong t)) (cond (free i) (Err (refused RepeatedName t)) (Ok t.bytes))) in r
+
+digit_test : (c : ℕ) → 48 ≤ c → c ≤ 57 → is_ascii_digit c ≡ true
+digit_test c low high = grind (arith, nat_tests)
+
+decimal_digits : (n : ℕ) → n ≤ 4096 → list_all is_ascii_digit (decimal n) ≡ true
+decimal_digits n h =
+    let digits : AllDigits 10 (decimal n) = (decimal_is_IsNumeral n (omega arith)).0.1 in
+    list_all-from_AllPass is_ascii_digit (decimal n) (λ i d lt. ?)
