@@ -8,7 +8,9 @@ use Rattle.std.proofs.lemmas.Bool.{false≢true}
 use Rattle.std.proofs.lemmas.Bool.Decides.{nat_tests}
 use Rattle.std.proofs.lemmas.List.Elements.{All-head, All-tail}
 use Rattle.std.proofs.lemmas.List.Sums.{list_all-from_AllPass}
+use Rattle.std.specs.Int.{IsInRange}
 use Rattle.std.proofs.lemmas.Str.Parse.{digit_at}
+use Rattle.std.proofs.lemmas.Grind.{get_or_default_zero}
 use Rattle.std.proofs.lemmas.Fmt.{decimal_is_IsNumeral}
 use Rattle.std.proofs.lemmas.Slice.Eq.{bytes_eq-Decides}
 use borrow.Author.Tests.{le-ltb}
@@ -35,7 +37,7 @@ use Rattle.pq_read.proofs.Circuits.{all_append}
 use Rattle.pq_read.proofs.Sizes.{size_fits}
 use Rattle.pq_write.proofs.Shapes.{Shape, shape, shape_of, comma, semicolon, arrow, header_shapes, include_shapes, indexed_shapes, place_shapes, register_shapes, joined_shapes, statement_shapes, gate_shapes, tail_shapes}
 use Rattle.pq_write.proofs.Steps.{Steps}
-use Rattle.pq_write.proofs.Frame.{IsInner, IsLine, ends_after, steps_by, placed, placed_all}
+use Rattle.pq_write.proofs.Frame.{IsInner, IsLine, ends_after, steps_by, placed, Placed, placed_all}
 
 -- what has been read after the header, and after the include
 abbrev pub begun : Env
@@ -71,10 +73,47 @@ free_name qregs cregs t named short free =
     let s : nat_lt 64 (length t.bytes) ≡ false = le-ltb 64 (length t.bytes) short in
     λ i. let r : Result (List ℕ) Refusal = cond (not (named i)) (Err (refused Syntax t)) (cond (s i) (Err (refused NameTooLong t)) (cond (free i) (Err (refused RepeatedName t)) (Ok t.bytes))) in r
 
-digit_test : (c : ℕ) → 48 ≤ c → c ≤ 57 → is_ascii_digit c ≡ true
-digit_test c low high = grind (arith, nat_tests)
+digit_test : (c : ℕ) → IsInRange 48 57 c → is_ascii_digit c ≡ true
+digit_test c h = let low : 48 ≤ c = h.0 in let high : c ≤ 57 = h.1 in grind (arith, nat_tests)
 
 decimal_digits : (n : ℕ) → n ≤ 4096 → list_all is_ascii_digit (decimal n) ≡ true
 decimal_digits n h =
-    let digits : AllDigits 10 (decimal n) = (decimal_is_IsNumeral n (omega arith)).0.1 in
-    list_all-from_AllPass is_ascii_digit (decimal n) (λ i d lt. ?)
+    let digits = (decimal_is_IsNumeral n (omega arith)).0.1 in
+    list_all-from_AllPass is_ascii_digit (decimal n)
+    (λ i d lt. subst (λ c. is_ascii_digit c ≡ true) (sym (get_or_default_zero (decimal n) i d lt)) (digit_test (get_or (decimal n) i 0) (digit_at (decimal n) i digits lt)))
+
+decimal_token : ℕ → ℕ → ℕ → TokenView
+decimal_token n line column = placed (shape Number (decimal n)) line column
+
+integer_read : (n line column : ℕ) (rest : List TokenView) → n ≤ 4096
+    → integer_at (decimal_token n line column ∷ rest) ≡ Ok (decimal_token n line column, rest)
+unfolding integer_at decimal_token
+integer_read n line column rest h =
+    let t : TokenView = placed (shape Number (decimal n)) line column in
+    ap (λ b. let r : Result (TokenView × List TokenView) Refusal = cond b (Ok (t, rest)) (Err (refused Syntax t)) in r) (decimal_digits n h)
+
+size_read : (too_many : Kind) (regs : List RegisterView) (n line column : ℕ) → 1 ≤ n → places_of regs + n ≤ 4096
+    → new_size too_many regs (decimal_token n line column) ≡ Ok n
+unfolding decimal_token
+size_read too_many regs n line column some room =
+    let value : digits_value 10 (decimal n) ≡ n = (decimal_is_IsNumeral n (omega arith)).1 in
+    size_fits too_many regs (placed (shape Number (decimal n)) line column) n (omega arith) (λ e. omega arith) room
+
+-- a reading, and what is made of it
+then_is : {A B : Type 0} (r : Result A Refusal) (x : A) (f : A → Result B Refusal) → r ≡ Ok x → (r >>= f) ≡ f x
+then_is r x f h = ap (λ q. q >>= f) h
+
+-- the tokens after the first word of a register's line
+abbrev pub IsDeclaration : Kind → List RegisterView → List RegisterView → List RegisterView → RegisterView → List TokenView → Type 0
+IsDeclaration too_many qregs cregs regs r rest = declared_at too_many qregs cregs regs rest ≡ Ok (r, [])
+
+declared : (too_many : Kind) (qregs cregs regs : List RegisterView) (r : RegisterView) → IsRegister r → is_taken qregs cregs r.name ≡ false
+    → places_of regs + r.size ≤ 4096 → Placed (indexed_shapes r.name r.size ++ semicolon ∷ []) (IsDeclaration too_many qregs cregs regs r)
+unfolding declared_at decimal_token
+declared too_many qregs cregs regs r register free room = λ l1 c1 l2 c2 l3 c3 l4 c4 l5 c5.
+    let some : 1 ≤ r.size = register.some in
+    let name : TokenView = placed (shape Word r.name) l1 c1 in
+    let rest : List TokenView = placed (shape RightBracket (codes "]")) l4 c4 ∷ placed semicolon l5 c5 ∷ [] in
+    then_is (new_name qregs cregs name) r.name _ (free_name qregs cregs name (lawful_is_name r.name register.named.lawful) register.named.short free)
+    ∙ (then_is (integer_at (decimal_token r.size l3 c3 ∷ rest)) (decimal_token r.size l3 c3, rest) _ (integer_read r.size l3 c3 rest (omega arith))
+    ∙ then_is (new_size too_many regs (decimal_token r.size l3 c3)) r.size _ (size_read too_many regs r.size l3 c3 some room))
