@@ -1,5 +1,5 @@
 -- The reader goes over the lines of a canonical text.
-use Rattle.std.proofs.Common.{◌≡◌, ℕ, ◌+◌, ◌<◌, ◌≤◌, Bool, true, false, not, ◌&&◌, ◌||◌, ◌==◌, nat_lt, ltb, cond, List, [], ◌∷◌, ◌++◌, length, map, get_or, All, Option, Some, None, Result, Ok, Err, codes, decimal, bytes_eq, refl, sym, ap, ◌∙◌, subst, inl, inr, arith, append_assoc}
+use Rattle.std.proofs.Common.{◌≡◌, ℕ, ◌+◌, ◌-◌, ◌<◌, ◌≤◌, Bool, true, false, not, ◌&&◌, ◌||◌, ◌==◌, nat_lt, ltb, cond, List, [], ◌∷◌, ◌++◌, length, map, get_or, All, Option, Some, None, Result, Ok, Err, codes, decimal, bytes_eq, refl, sym, ap, ◌∙◌, subst, inl, inr, arith, append_assoc}
 use Rattle.std.specs.List.{AllByRecursion, list_all}
 use Rattle.std.specs.Option.{is_some}
 use Rattle.std.specs.Char.{is_ascii_digit}
@@ -117,3 +117,67 @@ declared too_many qregs cregs regs r register free room = λ l1 c1 l2 c2 l3 c3 l
     then_is (new_name qregs cregs name) r.name _ (free_name qregs cregs name (lawful_is_name r.name register.named.lawful) register.named.short free)
     ∙ (then_is (integer_at (decimal_token r.size l3 c3 ∷ rest)) (decimal_token r.size l3 c3, rest) _ (integer_read r.size l3 c3 rest (omega arith))
     ∙ then_is (new_size too_many regs (decimal_token r.size l3 c3)) r.size _ (size_read too_many regs r.size l3 c3 some room))
+
+pub qreg_steps : (options : Options) (p : ProgramView) (r : RegisterView) → IsRegister r → is_taken p.qregs p.cregs r.name ≡ false → places_of p.qregs + r.size ≤ 4096
+    → Steps options (register_shapes (codes "qreg") r) (reading p) (with_qreg (reading p) r)
+unfolding piece_at statement_at
+qreg_steps options p r register free room =
+    let E : Env = reading p in
+    steps_by options E (with_qreg E r) (register_shapes (codes "qreg") r) (record { ends = (refl, (refl, (refl, (refl, (refl, refl))))); other = refl })
+    (placed_all (register_shapes (codes "qreg") r) (λ (front : List TokenView). after options E front ≡ Ok (with_qreg E r))
+    (λ l0 c0 l1 c1 l2 c2 l3 c3 l4 c4 l5 c5. ap (λ x. put x (with_qreg E) >>= λ y. let s : Result Env Refusal = Ok y.0 in s)
+    (declared TooManyQubits p.qregs p.cregs p.qregs r register free room l1 c1 l2 c2 l3 c3 l4 c4 l5 c5)))
+
+pub creg_steps : (options : Options) (p : ProgramView) (r : RegisterView) → IsRegister r → is_taken p.qregs p.cregs r.name ≡ false → places_of p.cregs + r.size ≤ 4096
+    → Steps options (register_shapes (codes "creg") r) (reading p) (with_creg (reading p) r)
+unfolding piece_at statement_at
+creg_steps options p r register free room =
+    let E : Env = reading p in
+    steps_by options E (with_creg E r) (register_shapes (codes "creg") r) (record { ends = (refl, (refl, (refl, (refl, (refl, refl))))); other = refl })
+    (placed_all (register_shapes (codes "creg") r) (λ (front : List TokenView). after options E front ≡ Ok (with_creg E r))
+    (λ l0 c0 l1 c1 l2 c2 l3 c3 l4 c4 l5 c5. ap (λ x. put x (with_creg E) >>= λ y. let s : Result Env Refusal = Ok y.0 in s)
+    (declared TooManyBits p.qregs p.cregs p.cregs r register free room l1 c1 l2 c2 l3 c3 l4 c4 l5 c5)))
+
+-- no place and no list of arguments has a `;`
+inner_place : (regs : List RegisterView) (n : ℕ) → AllByRecursion IsInner (place_shapes regs n)
+inner_place [] n = tt
+inner_place (r ∷ rs) n =
+    elim (nat_lt n r.size) as (λ b. AllByRecursion IsInner (cond b (indexed_shapes r.name n) (place_shapes rs (n - r.size)))) [
+      | true ↦ (refl, (refl, (refl, (refl, tt))))
+      | false ↦ inner_place rs (n - r.size)
+    ]
+
+inner_places : (regs : List RegisterView) (ns : List ℕ) → AllByRecursion IsInner (joined_shapes (map (place_shapes regs) ns))
+inner_places regs [] = tt
+inner_places regs (n ∷ []) = inner_place regs n
+inner_places regs (n ∷ m ∷ more) =
+    all_append IsInner (place_shapes regs n) (comma ∷ joined_shapes (map (place_shapes regs) (m ∷ more))) (inner_place regs n) (refl, inner_places regs (m ∷ more))
+
+statement_line : (word : List ℕ) (regs : List RegisterView) (ns : List ℕ) → bytes_eq (codes "gate") word ≡ false → IsLine (statement_shapes word (map (place_shapes regs) ns))
+statement_line word regs ns other =
+    record { ends = ends_after (shape Word word ∷ joined_shapes (map (place_shapes regs) ns)) (refl, inner_places regs ns); other = other }
+
+-- no gate is written with the word `gate`
+other_word : (g : Gate) → bytes_eq (codes "gate") (gate_word g) ≡ false
+other_word (gates.H wire) = refl
+other_word (gates.X wire) = refl
+other_word (gates.Phase T wire) = refl
+other_word (gates.Phase S wire) = refl
+other_word (gates.Phase Z wire) = refl
+other_word (gates.Phase Sdg wire) = refl
+other_word (gates.Phase Tdg wire) = refl
+other_word (gates.Cx control target) = refl
+
+pub gate_is_line : (qregs : List RegisterView) (g : Gate) → IsLine (gate_shapes qregs g)
+gate_is_line qregs g = statement_line (gate_word g) qregs (gate_arguments g) (other_word g)
+
+pub tail_is_line : (qregs cregs : List RegisterView) (t : TailView) → IsLine (tail_shapes qregs cregs t)
+tail_is_line qregs cregs (Barrier wires) = statement_line (codes "barrier") qregs wires refl
+tail_is_line qregs cregs (Measure wire bit) =
+    let first : Shape = shape Word (codes "measure") in
+    let between : List Shape = place_shapes qregs wire ++ (arrow ∷ place_shapes cregs bit) in
+    let inner : AllByRecursion IsInner between =
+    all_append IsInner (place_shapes qregs wire) (arrow ∷ place_shapes cregs bit) (inner_place qregs wire) (refl, inner_place cregs bit)
+    in
+    subst (λ (l : List Shape). IsLine (first ∷ l)) (append_assoc (place_shapes qregs wire) (arrow ∷ place_shapes cregs bit) (semicolon ∷ []))
+    (record { ends = ends_after (first ∷ between) (refl, inner); other = refl })
