@@ -2,3 +2,4 @@ pub mod Shapes
 pub mod Steps
 pub mod Frame
 pub mod Lines
+pub mod ReadBack

@@ -1,0 +1,185 @@
+-- A text whose tokens are those of a program's canonical text is read as this program.
+use Rattle.std.proofs.Common.{◌≡◌, ◌≢◌, ℕ, ◌+◌, ◌<◌, ◌≤◌, true, false, ◌||◌, List, [], ◌∷◌, ◌++◌, length, map, flat_map, get_or, All, AllPairs, Result, Ok, codes, refl, sym, ap, ◌∙◌, subst, arith, append_assoc, length-append}
+use Rattle.std.specs.List.{AllByRecursion}
+use Rattle.std.proofs.lemmas.List.{append-nil, get_or_append_left, get_or-append-add}
+use Rattle.std.proofs.lemmas.List.Concat.{flat_map-cons}
+use Rattle.std.proofs.lemmas.List.Elements.{All-head}
+use Rattle.std.proofs.Math.Seq.{get_or-append_seam}
+use Rattle.pq_lex.specs.Token.{TokenView}
+use Rattle.pq_gate.specs.declared.gate.Gate.{Gate}
+use Rattle.pq_gate.specs.Circuit.{IsOnWires}
+use Rattle.pq_text.specs.Program.{RegisterView, TailView, ProgramView, places_of, entries_of}
+use Rattle.pq_text.specs.WellFormed.{IsRegister, IsTailEntry, WellFormed}
+use Rattle.pq_read.specs.declared.refusal.Refusal.{Refusal}
+use Rattle.pq_read.specs.declared.program.Options.{Options}
+use Rattle.pq_read.specs.Environment.{Env, start}
+use Rattle.pq_read.specs.After.{is_taken, with_gates, with_tail, after}
+use Rattle.pq_read.specs.Reads.{read_tokens}
+use Rattle.pq_read.proofs.Counts.{places_of-append, entries_of-append}
+use Rattle.pq_read.proofs.Pieces.{read_done}
+use Rattle.pq_write.proofs.Shapes.{Shape, shape_of, missing, header_shapes, include_shapes, register_shapes, gate_shapes, tail_shapes, program_shapes}
+use Rattle.pq_write.proofs.Steps.{Steps}
+use Rattle.pq_write.proofs.Frame.{steps_by, steps_none, steps_join, parts_of, placed, placed_all}
+use Rattle.pq_write.proofs.Lines.{begun, reading, header_steps, include_steps, not_found, qreg_steps, creg_steps, gate_is_line, tail_is_line}
+
+-- how a gate's line and a line of the tail are read
+abbrev pub AfterGate : Type 0
+AfterGate =
+    (options : Options) (E : Env) (g : Gate) (front : List TokenView) → E.header ≡ true → E.included ≡ true → E.program.tail ≡ []
+    → All IsRegister E.program.qregs → AllPairs (λ q r. q.name ≢ r.name) E.program.qregs → IsOnWires (places_of E.program.qregs) g
+    → length E.program.gates < 1048576 → map shape_of front ≡ gate_shapes E.program.qregs g
+    → after options E front ≡ Ok (with_gates E (E.program.gates ++ g ∷ []))
+
+abbrev pub AfterTail : Type 0
+AfterTail =
+    (options : Options) (E : Env) (t : TailView) (front : List TokenView) → E.header ≡ true → E.included ≡ true
+    → All IsRegister E.program.qregs → All IsRegister E.program.cregs
+    → AllPairs (λ q r. q.name ≢ r.name) E.program.qregs → AllPairs (λ q r. q.name ≢ r.name) E.program.cregs
+    → IsTailEntry (places_of E.program.qregs) (places_of E.program.cregs) t → entries_of (E.program.tail ++ t ∷ []) ≤ 1048576
+    → map shape_of front ≡ tail_shapes E.program.qregs E.program.cregs t
+    → after options E front ≡ Ok (with_tail E (E.program.tail ++ t ∷ []))
+
+-- what holds of a list holds of its parts
+all_left : {A : Type 0} (P : A → Type 0) (xs ys : List A) → All P (xs ++ ys) → All P xs
+all_left P xs ys h = λ k d lt. subst P (get_or_append_left xs ys d k lt) (h k d (omega (arith, length-append xs ys)))
+
+all_right : {A : Type 0} (P : A → Type 0) (xs ys : List A) → All P (xs ++ ys) → All P ys
+all_right P xs ys h = λ k d lt. subst P (get_or-append-add xs ys k d) (h (length xs + k) d (omega (arith, length-append xs ys)))
+
+all_here : {A : Type 0} (P : A → Type 0) (xs : List A) (y : A) (ys : List A) → All P (xs ++ y ∷ ys) → P y
+all_here P xs y ys h = All-head P y ys (all_right P xs (y ∷ ys) h)
+
+each_here : {A : Type 0} (P : A → Type 0) (xs : List A) (y : A) (ys : List A) → AllByRecursion P (xs ++ y ∷ ys) → P y
+each_here P [] y ys h = h.0
+each_here P (x ∷ xs) y ys h = each_here P xs y ys h.1
+
+pairs_left : {A : Type 0} (R : A → A → Type 0) (xs ys : List A) → AllPairs R (xs ++ ys) → AllPairs R xs
+pairs_left R xs ys h = λ i j d lt len.
+    subst (λ x. R x (get_or xs j d)) (get_or_append_left xs ys d i (omega arith))
+    (subst (R (get_or (xs ++ ys) i d)) (get_or_append_left xs ys d j len) (h i j d lt (omega (arith, length-append xs ys))))
+
+pairs_right : {A : Type 0} (R : A → A → Type 0) (xs ys : List A) → AllPairs R (xs ++ ys) → AllPairs R ys
+pairs_right R xs ys h = λ i j d lt len.
+    subst (λ x. R x (get_or ys j d)) (get_or-append-add xs ys i d)
+    (subst (R (get_or (xs ++ ys) (length xs + i) d)) (get_or-append-add xs ys j d) (h (length xs + i) (length xs + j) d (omega arith) (omega (arith, length-append xs ys))))
+
+pairs_here : {A : Type 0} (R : A → A → Type 0) (xs : List A) (y : A) (ys : List A) → AllPairs R (xs ++ y ∷ ys) → All (λ x. R x y) xs
+pairs_here R xs y ys h = λ k d lt.
+    subst (λ x. R x y) (get_or_append_left xs (y ∷ ys) d k lt)
+    (subst (R (get_or (xs ++ y ∷ ys) k d)) (get_or-append_seam xs y ys d) (h k (length xs) d lt (omega (arith, length-append xs (y ∷ ys)))))
+
+-- The lines of a list are read, if each line is after those before it.
+steps_each : {A : Type 0} (options : Options) (shapes : A → List Shape) (read : List A → Env) (all : List A)
+    → ((done : List A) (x : A) (rest : List A) → all ≡ done ++ x ∷ rest → Steps options (shapes x) (read done) (read (done ++ x ∷ [])))
+    → (done left : List A) → all ≡ done ++ left → Steps options (flat_map shapes left) (read done) (read all)
+steps_each options shapes read all each done [] whole =
+    subst (λ l. Steps options [] (read done) (read l)) (sym (whole ∙ append-nil done)) (steps_none options (read done))
+steps_each options shapes read all each done (x ∷ rest) whole =
+    subst (λ l. Steps options l (read done) (read all)) (sym (flat_map-cons shapes x rest))
+    (steps_join options (shapes x) (flat_map shapes rest) (read done) (read (done ++ x ∷ [])) (read all) (each done x rest whole)
+    (steps_each options shapes read all each (done ++ x ∷ []) rest (whole ∙ sym (append_assoc done (x ∷ []) rest))))
+
+not_taken : (qregs cregs : List RegisterView) (name : List ℕ) → All (λ q. q.name ≡ name → ⊥) qregs → All (λ q. q.name ≡ name → ⊥) cregs → is_taken qregs cregs name ≡ false
+not_taken qregs cregs name q c = λ i. not_found qregs 0 name q i || not_found cregs 0 name c i
+
+registers_room : (before : List RegisterView) (r : RegisterView) (later : List RegisterView) → places_of (before ++ r ∷ later) ≤ 4096 → places_of before + r.size ≤ 4096
+registers_room before r later h =
+    let e : places_of (before ++ r ∷ later) ≡ places_of before + places_of (r ∷ later) = places_of-append before (r ∷ later) in omega arith
+
+-- the program so far
+abbrev pub so_far : List RegisterView → List RegisterView → List Gate → List TailView → ProgramView
+so_far qregs cregs gates tail = record { qregs = qregs; cregs = cregs; gates = gates; tail = tail }
+
+OtherName : RegisterView → RegisterView → Type 0
+OtherName q r = q.name ≡ r.name → ⊥
+
+qregs_steps : (options : Options) (qregs : List RegisterView) → All IsRegister qregs → AllPairs (λ q r. q.name ≡ r.name → ⊥) qregs → places_of qregs ≤ 4096
+    → Steps options (flat_map (register_shapes (codes "qreg")) qregs) (reading start.program) (reading (so_far qregs [] [] []))
+qregs_steps options qregs registers names room =
+    steps_each options (register_shapes (codes "qreg")) (λ done. reading (so_far done [] [] [])) qregs
+    (λ done r rest e.
+        qreg_steps options (so_far done [] [] []) r (all_here IsRegister done r rest (subst (All IsRegister) e registers))
+        (not_taken done [] r.name (pairs_here (λ q r. q.name ≡ r.name → ⊥) done r rest (subst (AllPairs (λ q r. q.name ≡ r.name → ⊥)) e names)) (λ k d lt. absurd (omega arith)))
+        (registers_room done r rest (subst (λ l. places_of l ≤ 4096) e room)))
+    [] qregs refl
+
+cregs_steps : (options : Options) (qregs cregs : List RegisterView) → All IsRegister (qregs ++ cregs) → AllPairs (λ q r. q.name ≡ r.name → ⊥) (qregs ++ cregs) → places_of cregs ≤ 4096
+    → Steps options (flat_map (register_shapes (codes "creg")) cregs) (reading (so_far qregs [] [] [])) (reading (so_far qregs cregs [] []))
+cregs_steps options qregs cregs registers names room =
+    steps_each options (register_shapes (codes "creg")) (λ done. reading (so_far qregs done [] [])) cregs
+    (λ done r rest e.
+        let before : qregs ++ cregs ≡ (qregs ++ done) ++ r ∷ rest = ap (λ l. qregs ++ l) e ∙ sym (append_assoc qregs done (r ∷ rest)) in
+        let free : All (λ q. q.name ≡ r.name → ⊥) (qregs ++ done) =
+        pairs_here (λ q r. q.name ≡ r.name → ⊥) (qregs ++ done) r rest (subst (AllPairs (λ q r. q.name ≡ r.name → ⊥)) before names)
+        in
+        creg_steps options (so_far qregs done [] []) r (all_here IsRegister (qregs ++ done) r rest (subst (All IsRegister) before registers))
+        (not_taken qregs done r.name (all_left (λ q. q.name ≡ r.name → ⊥) qregs done free) (all_right (λ q. q.name ≡ r.name → ⊥) qregs done free))
+        (registers_room done r rest (subst (λ l. places_of l ≤ 4096) e room)))
+    [] cregs refl
+
+gates_steps : AfterGate → (options : Options) (p : ProgramView) → WellFormed p
+    → Steps options (flat_map (gate_shapes p.qregs) p.gates) (reading (so_far p.qregs p.cregs [] [])) (reading (so_far p.qregs p.cregs p.gates []))
+gates_steps after_gate options p w =
+    steps_each options (gate_shapes p.qregs) (λ done. reading (so_far p.qregs p.cregs done [])) p.gates
+    (λ done g rest e.
+        let E : Env = reading (so_far p.qregs p.cregs done []) in
+        let within : length (done ++ g ∷ rest) ≤ 1048576 = subst (λ l. length l ≤ 1048576) e w.gates in
+        let room : length done < 1048576 = omega (arith, length-append done (g ∷ rest)) in
+        let on : IsOnWires (places_of p.qregs) g = each_here (IsOnWires (places_of p.qregs)) done g rest (subst (AllByRecursion (IsOnWires (places_of p.qregs))) e w.circuit) in
+        steps_by options E (with_gates E (done ++ g ∷ [])) (gate_shapes p.qregs g) (gate_is_line p.qregs g) (λ front shaped.
+            after_gate options E g front refl refl refl (all_left IsRegister p.qregs p.cregs w.registers)
+            (pairs_left (λ q r. q.name ≡ r.name → ⊥) p.qregs p.cregs w.names) on room shaped))
+    [] p.gates refl
+
+tail_steps : AfterTail → (options : Options) (p : ProgramView) → WellFormed p
+    → Steps options (flat_map (tail_shapes p.qregs p.cregs) p.tail) (reading (so_far p.qregs p.cregs p.gates [])) (reading p)
+tail_steps after_tail options p w =
+    steps_each options (tail_shapes p.qregs p.cregs) (λ done. reading (so_far p.qregs p.cregs p.gates done)) p.tail
+    (λ done t rest e.
+        let E : Env = reading (so_far p.qregs p.cregs p.gates done) in
+        let whole : p.tail ≡ (done ++ t ∷ []) ++ rest = e ∙ sym (append_assoc done (t ∷ []) rest) in
+        let within : entries_of ((done ++ t ∷ []) ++ rest) ≤ 1048576 = subst (λ l. entries_of l ≤ 1048576) whole w.entries in
+        let room : entries_of (done ++ t ∷ []) ≤ 1048576 = omega (arith, entries_of-append (done ++ t ∷ []) rest) in
+        let entry : IsTailEntry (places_of p.qregs) (places_of p.cregs) t =
+        all_here (IsTailEntry (places_of p.qregs) (places_of p.cregs)) done t rest (subst (All (IsTailEntry (places_of p.qregs) (places_of p.cregs))) e w.tail)
+        in
+        steps_by options E (with_tail E (done ++ t ∷ [])) (tail_shapes p.qregs p.cregs t) (tail_is_line p.qregs p.cregs t) (λ front shaped.
+            after_tail options E t front refl refl (all_left IsRegister p.qregs p.cregs w.registers) (all_right IsRegister p.qregs p.cregs w.registers)
+            (pairs_left (λ q r. q.name ≡ r.name → ⊥) p.qregs p.cregs w.names) (pairs_right (λ q r. q.name ≡ r.name → ⊥) p.qregs p.cregs w.names) entry room shaped))
+    [] p.tail refl
+
+-- the lines of the whole text, one kind after another
+program_steps : AfterGate → AfterTail → (options : Options) (p : ProgramView) → WellFormed p → Steps options (program_shapes p) start (reading p)
+program_steps after_gate after_tail options p w =
+    let tail : List Shape = flat_map (tail_shapes p.qregs p.cregs) p.tail in
+    let gates : List Shape = flat_map (gate_shapes p.qregs) p.gates in
+    let cregs : List Shape = flat_map (register_shapes (codes "creg")) p.cregs in
+    let qregs : List Shape = flat_map (register_shapes (codes "qreg")) p.qregs in
+    let some : Env = reading (so_far p.qregs [] [] []) in
+    let all : Env = reading (so_far p.qregs p.cregs [] []) in
+    let circuit : Env = reading (so_far p.qregs p.cregs p.gates []) in
+    let from_gates : Steps options (gates ++ tail) all (reading p) =
+    steps_join options gates tail all circuit (reading p) (gates_steps after_gate options p w) (tail_steps after_tail options p w)
+    in
+    let from_cregs : Steps options (cregs ++ (gates ++ tail)) some (reading p) =
+    steps_join options cregs (gates ++ tail) some all (reading p) (cregs_steps options p.qregs p.cregs w.registers w.names w.bits) from_gates
+    in
+    let from_qregs : Steps options (qregs ++ (cregs ++ (gates ++ tail))) (reading start.program) (reading p) =
+    steps_join options qregs (cregs ++ (gates ++ tail)) (reading start.program) some (reading p)
+    (qregs_steps options p.qregs (all_left IsRegister p.qregs p.cregs w.registers) (pairs_left (λ q r. q.name ≡ r.name → ⊥) p.qregs p.cregs w.names) w.qubits) from_cregs
+    in
+    steps_join options header_shapes (include_shapes ++ (qregs ++ (cregs ++ (gates ++ tail)))) start begun (reading p) (header_steps options)
+    (steps_join options include_shapes (qregs ++ (cregs ++ (gates ++ tail))) begun (reading start.program) (reading p) (include_steps options) from_qregs)
+
+-- the end of the text
+end_read : (options : Options) (p : ProgramView) (ts : List TokenView) → map shape_of ts ≡ missing ∷ [] → read_tokens options (reading p) ts ≡ Ok p
+end_read options p =
+    placed_all (missing ∷ []) (λ (ts : List TokenView). read_tokens options (reading p) ts ≡ Ok p)
+    (λ line column. read_done options (reading p) (placed missing line column ∷ []) refl refl)
+
+pub reads_back : AfterGate → AfterTail → (p : ProgramView) (options : Options) (ts : List TokenView) → WellFormed p → map shape_of ts ≡ program_shapes p ++ missing ∷ []
+    → read_tokens options start ts ≡ Ok p
+reads_back after_gate after_tail p options ts w shaped =
+    let parts = parts_of (program_shapes p) (missing ∷ []) ts shaped in
+    ap (read_tokens options start) parts.whole
+    ∙ (program_steps after_gate after_tail options p w parts.first parts.second parts.first_shaped ∙ end_read options p parts.second parts.second_shaped)
