@@ -1,5 +1,5 @@
 -- The reader goes over a line as one piece, and over lines one after another.
-use Rattle.std.proofs.Common.{◌≡◌, ℕ, Bool, true, false, ◌&&◌, ◌==◌, cond, List, [], ◌∷◌, ◌++◌, map, Result, Ok, Err, codes, bytes_eq, refl, sym, ap, ◌∙◌, subst, append_assoc}
+use Rattle.std.proofs.Common.{◌≡◌, ℕ, Bool, true, false, ◌&&◌, ◌==◌, cond, List, [], ◌∷◌, ◌++◌, map, Ok, codes, bytes_eq, refl, sym, ap, ◌∙◌, subst, append_assoc}
 use Rattle.std.specs.List.{AllByRecursion}
 use Rattle.pq_lex.specs.declared.token.Form.{Form}
 use Rattle.pq_lex.specs.declared.token.Form.TheVariants.{Word, Semicolon, RightBrace}
@@ -10,7 +10,7 @@ use Rattle.pq_read.specs.Environment.{Env}
 use Rattle.pq_read.specs.After.{after}
 use Rattle.pq_read.specs.Pieces.{Cut, Front, Until, ended_by, joined_to, cut}
 use Rattle.pq_read.specs.Reads.{read_pieces, read_tokens}
-use Rattle.pq_write.proofs.Shapes.{Shape, shape, shape_of, semicolon}
+use Rattle.pq_write.proofs.Shapes.{Shape, shape_of, semicolon}
 use Rattle.pq_write.proofs.Steps.{Steps}
 
 -- whether a shape ends a piece

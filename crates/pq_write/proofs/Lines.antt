@@ -1,10 +1,9 @@
 -- The reader goes over the lines of a canonical text.
-use Rattle.std.proofs.Common.{◌≡◌, ℕ, ◌+◌, ◌-◌, ◌<◌, ◌≤◌, Bool, true, false, not, ◌&&◌, ◌||◌, ◌==◌, nat_lt, ltb, cond, List, [], ◌∷◌, ◌++◌, length, map, get_or, All, Option, Some, None, Result, Ok, Err, codes, decimal, bytes_eq, refl, sym, ap, ◌∙◌, subst, inl, inr, arith, append_assoc}
+use Rattle.std.proofs.Common.{◌≡◌, ℕ, ◌+◌, ◌-◌, ◌≤◌, true, false, not, nat_lt, cond, List, [], ◌∷◌, ◌++◌, length, map, get_or, All, Some, Result, Ok, Err, codes, decimal, bytes_eq, refl, sym, ap, ◌∙◌, subst, arith, append_assoc}
 use Rattle.std.specs.List.{AllByRecursion, list_all}
 use Rattle.std.specs.Option.{is_some}
 use Rattle.std.specs.Char.{is_ascii_digit}
-use Rattle.std.specs.Str.Parse.{AllDigits, digits_value}
-use Rattle.std.proofs.lemmas.Bool.{false≢true}
+use Rattle.std.specs.Str.Parse.{digits_value}
 use Rattle.std.proofs.lemmas.Bool.Decides.{nat_tests}
 use Rattle.std.proofs.lemmas.List.Elements.{All-head, All-tail}
 use Rattle.std.proofs.lemmas.List.Sums.{list_all-from_AllPass}
@@ -14,11 +13,10 @@ use Rattle.std.proofs.lemmas.Grind.{get_or_default_zero}
 use Rattle.std.proofs.lemmas.Fmt.{decimal_is_IsNumeral}
 use Rattle.std.proofs.lemmas.Slice.Eq.{bytes_eq-Decides}
 use borrow.Author.Tests.{le-ltb}
-use Rattle.pq_lex.specs.declared.token.Form.TheVariants.{Word, Number, Comma, LeftBracket, RightBracket, Semicolon, Arrow}
+use Rattle.pq_lex.specs.declared.token.Form.TheVariants.{Word, Number, RightBracket}
 use Rattle.pq_lex.specs.Token.{TokenView}
 use Rattle.pq_gate.specs.declared.gate.Gate.{Gate}
 use Rattle.pq_gate.specs.declared.gate.Gate.TheVariants as gates
-use Rattle.pq_gate.specs.declared.gate.Eighths.{Eighths}
 use Rattle.pq_gate.specs.declared.gate.Eighths.TheVariants.{T, S, Z, Sdg, Tdg}
 use Rattle.pq_text.specs.Program.{RegisterView, TailView, Barrier, Measure, ProgramView, places_of}
 use Rattle.pq_text.specs.Print.{gate_word, gate_arguments}
@@ -28,14 +26,14 @@ use Rattle.pq_read.specs.declared.refusal.Kind.TheVariants.{Syntax, RepeatedName
 use Rattle.pq_read.specs.declared.refusal.Refusal.{Refusal}
 use Rattle.pq_read.specs.declared.program.Options.{Options}
 use Rattle.pq_read.specs.declared.argument.Span.{Span}
-use Rattle.pq_read.specs.Faults.{◌>>=◌, refused, integer_at, value_of}
+use Rattle.pq_read.specs.Faults.{◌>>=◌, refused, integer_at}
 use Rattle.pq_read.specs.Words.{is_name}
 use Rattle.pq_read.specs.Environment.{Env, start, span_from}
 use Rattle.pq_read.specs.After.{header_at, include_at, is_taken, new_name, new_size, declared_at, put, with_qreg, with_creg, statement_at, piece_at, after}
 use Rattle.pq_read.proofs.Names.{lawful_is_name}
 use Rattle.pq_read.proofs.Circuits.{all_append}
 use Rattle.pq_read.proofs.Sizes.{size_fits}
-use Rattle.pq_write.proofs.Shapes.{Shape, shape, shape_of, comma, semicolon, arrow, header_shapes, include_shapes, indexed_shapes, place_shapes, register_shapes, joined_shapes, statement_shapes, gate_shapes, tail_shapes}
+use Rattle.pq_write.proofs.Shapes.{Shape, shape, comma, semicolon, arrow, header_shapes, include_shapes, indexed_shapes, place_shapes, register_shapes, joined_shapes, statement_shapes, gate_shapes, tail_shapes}
 use Rattle.pq_write.proofs.Steps.{Steps}
 use Rattle.pq_write.proofs.Frame.{IsInner, IsLine, ends_after, steps_by, placed, Placed, placed_all}
 

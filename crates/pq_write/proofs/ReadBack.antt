@@ -1,5 +1,5 @@
 -- A text whose tokens are those of a program's canonical text is read as this program.
-use Rattle.std.proofs.Common.{◌≡◌, ◌≢◌, ℕ, ◌+◌, ◌<◌, ◌≤◌, true, false, ◌||◌, List, [], ◌∷◌, ◌++◌, length, map, flat_map, get_or, All, AllPairs, Result, Ok, codes, refl, sym, ap, ◌∙◌, subst, arith, append_assoc, length-append}
+use Rattle.std.proofs.Common.{◌≡◌, ◌≢◌, ℕ, ◌+◌, ◌<◌, ◌≤◌, true, false, ◌||◌, List, [], ◌∷◌, ◌++◌, length, map, flat_map, get_or, All, AllPairs, Ok, codes, refl, sym, ap, ◌∙◌, subst, arith, append_assoc, length-append}
 use Rattle.std.specs.List.{AllByRecursion}
 use Rattle.std.proofs.lemmas.List.{append-nil, get_or_append_left, get_or-append-add}
 use Rattle.std.proofs.lemmas.List.Concat.{flat_map-cons}
@@ -10,7 +10,6 @@ use Rattle.pq_gate.specs.declared.gate.Gate.{Gate}
 use Rattle.pq_gate.specs.Circuit.{IsOnWires}
 use Rattle.pq_text.specs.Program.{RegisterView, TailView, ProgramView, places_of, entries_of}
 use Rattle.pq_text.specs.WellFormed.{IsRegister, IsTailEntry, WellFormed}
-use Rattle.pq_read.specs.declared.refusal.Refusal.{Refusal}
 use Rattle.pq_read.specs.declared.program.Options.{Options}
 use Rattle.pq_read.specs.Environment.{Env, start}
 use Rattle.pq_read.specs.After.{is_taken, with_gates, with_tail, after}
@@ -26,7 +25,8 @@ use Rattle.pq_write.proofs.Lines.{begun, reading, header_steps, include_steps, n
 abbrev pub AfterGate : Type 0
 AfterGate =
     (options : Options) (E : Env) (g : Gate) (front : List TokenView) → E.header ≡ true → E.included ≡ true → E.program.tail ≡ []
-    → All IsRegister E.program.qregs → AllPairs (λ q r. q.name ≢ r.name) E.program.qregs → IsOnWires (places_of E.program.qregs) g
+    → All IsRegister E.program.qregs → AllPairs (λ q r. q.name ≢ r.name) E.program.qregs
+    → places_of E.program.qregs ≤ 4096 → IsOnWires (places_of E.program.qregs) g
     → length E.program.gates < 1048576 → map shape_of front ≡ gate_shapes E.program.qregs g
     → after options E front ≡ Ok (with_gates E (E.program.gates ++ g ∷ []))
 
@@ -35,6 +35,7 @@ AfterTail =
     (options : Options) (E : Env) (t : TailView) (front : List TokenView) → E.header ≡ true → E.included ≡ true
     → All IsRegister E.program.qregs → All IsRegister E.program.cregs
     → AllPairs (λ q r. q.name ≢ r.name) E.program.qregs → AllPairs (λ q r. q.name ≢ r.name) E.program.cregs
+    → places_of E.program.qregs ≤ 4096 → places_of E.program.cregs ≤ 4096
     → IsTailEntry (places_of E.program.qregs) (places_of E.program.cregs) t → entries_of (E.program.tail ++ t ∷ []) ≤ 1048576
     → map shape_of front ≡ tail_shapes E.program.qregs E.program.cregs t
     → after options E front ≡ Ok (with_tail E (E.program.tail ++ t ∷ []))
@@ -90,17 +91,14 @@ registers_room before r later h =
 abbrev pub so_far : List RegisterView → List RegisterView → List Gate → List TailView → ProgramView
 so_far qregs cregs gates tail = record { qregs = qregs; cregs = cregs; gates = gates; tail = tail }
 
-OtherName : RegisterView → RegisterView → Type 0
-OtherName q r = q.name ≡ r.name → ⊥
-
 qregs_steps : (options : Options) (qregs : List RegisterView) → All IsRegister qregs → AllPairs (λ q r. q.name ≡ r.name → ⊥) qregs → places_of qregs ≤ 4096
     → Steps options (flat_map (register_shapes (codes "qreg")) qregs) (reading start.program) (reading (so_far qregs [] [] []))
 qregs_steps options qregs registers names room =
     steps_each options (register_shapes (codes "qreg")) (λ done. reading (so_far done [] [] [])) qregs
     (λ done r rest e.
-        qreg_steps options (so_far done [] [] []) r (all_here IsRegister done r rest (subst (All IsRegister) e registers))
-        (not_taken done [] r.name (pairs_here (λ q r. q.name ≡ r.name → ⊥) done r rest (subst (AllPairs (λ q r. q.name ≡ r.name → ⊥)) e names)) (λ k d lt. absurd (omega arith)))
-        (registers_room done r rest (subst (λ l. places_of l ≤ 4096) e room)))
+    qreg_steps options (so_far done [] [] []) r (all_here IsRegister done r rest (subst (All IsRegister) e registers))
+    (not_taken done [] r.name (pairs_here (λ q r. q.name ≡ r.name → ⊥) done r rest (subst (AllPairs (λ q r. q.name ≡ r.name → ⊥)) e names)) (λ k d lt. absurd (omega arith)))
+    (registers_room done r rest (subst (λ l. places_of l ≤ 4096) e room)))
     [] qregs refl
 
 cregs_steps : (options : Options) (qregs cregs : List RegisterView) → All IsRegister (qregs ++ cregs) → AllPairs (λ q r. q.name ≡ r.name → ⊥) (qregs ++ cregs) → places_of cregs ≤ 4096
@@ -108,13 +106,13 @@ cregs_steps : (options : Options) (qregs cregs : List RegisterView) → All IsRe
 cregs_steps options qregs cregs registers names room =
     steps_each options (register_shapes (codes "creg")) (λ done. reading (so_far qregs done [] [])) cregs
     (λ done r rest e.
-        let before : qregs ++ cregs ≡ (qregs ++ done) ++ r ∷ rest = ap (λ l. qregs ++ l) e ∙ sym (append_assoc qregs done (r ∷ rest)) in
-        let free : All (λ q. q.name ≡ r.name → ⊥) (qregs ++ done) =
-        pairs_here (λ q r. q.name ≡ r.name → ⊥) (qregs ++ done) r rest (subst (AllPairs (λ q r. q.name ≡ r.name → ⊥)) before names)
-        in
-        creg_steps options (so_far qregs done [] []) r (all_here IsRegister (qregs ++ done) r rest (subst (All IsRegister) before registers))
-        (not_taken qregs done r.name (all_left (λ q. q.name ≡ r.name → ⊥) qregs done free) (all_right (λ q. q.name ≡ r.name → ⊥) qregs done free))
-        (registers_room done r rest (subst (λ l. places_of l ≤ 4096) e room)))
+    let before : qregs ++ cregs ≡ (qregs ++ done) ++ r ∷ rest = ap (λ l. qregs ++ l) e ∙ sym (append_assoc qregs done (r ∷ rest)) in
+    let free : All (λ q. q.name ≡ r.name → ⊥) (qregs ++ done) =
+    pairs_here (λ q r. q.name ≡ r.name → ⊥) (qregs ++ done) r rest (subst (AllPairs (λ q r. q.name ≡ r.name → ⊥)) before names)
+    in
+    creg_steps options (so_far qregs done [] []) r (all_here IsRegister (qregs ++ done) r rest (subst (All IsRegister) before registers))
+    (not_taken qregs done r.name (all_left (λ q. q.name ≡ r.name → ⊥) qregs done free) (all_right (λ q. q.name ≡ r.name → ⊥) qregs done free))
+    (registers_room done r rest (subst (λ l. places_of l ≤ 4096) e room)))
     [] cregs refl
 
 gates_steps : AfterGate → (options : Options) (p : ProgramView) → WellFormed p
@@ -122,13 +120,13 @@ gates_steps : AfterGate → (options : Options) (p : ProgramView) → WellFormed
 gates_steps after_gate options p w =
     steps_each options (gate_shapes p.qregs) (λ done. reading (so_far p.qregs p.cregs done [])) p.gates
     (λ done g rest e.
-        let E : Env = reading (so_far p.qregs p.cregs done []) in
-        let within : length (done ++ g ∷ rest) ≤ 1048576 = subst (λ l. length l ≤ 1048576) e w.gates in
-        let room : length done < 1048576 = omega (arith, length-append done (g ∷ rest)) in
-        let on : IsOnWires (places_of p.qregs) g = each_here (IsOnWires (places_of p.qregs)) done g rest (subst (AllByRecursion (IsOnWires (places_of p.qregs))) e w.circuit) in
-        steps_by options E (with_gates E (done ++ g ∷ [])) (gate_shapes p.qregs g) (gate_is_line p.qregs g) (λ front shaped.
-            after_gate options E g front refl refl refl (all_left IsRegister p.qregs p.cregs w.registers)
-            (pairs_left (λ q r. q.name ≡ r.name → ⊥) p.qregs p.cregs w.names) on room shaped))
+    let E : Env = reading (so_far p.qregs p.cregs done []) in
+    let within : length (done ++ g ∷ rest) ≤ 1048576 = subst (λ l. length l ≤ 1048576) e w.gates in
+    let room : length done < 1048576 = omega (arith, length-append done (g ∷ rest)) in
+    let on : IsOnWires (places_of p.qregs) g = each_here (IsOnWires (places_of p.qregs)) done g rest (subst (AllByRecursion (IsOnWires (places_of p.qregs))) e w.circuit) in
+    steps_by options E (with_gates E (done ++ g ∷ [])) (gate_shapes p.qregs g) (gate_is_line p.qregs g) (λ front shaped.
+    after_gate options E g front refl refl refl (all_left IsRegister p.qregs p.cregs w.registers)
+    (pairs_left (λ q r. q.name ≡ r.name → ⊥) p.qregs p.cregs w.names) w.qubits on room shaped))
     [] p.gates refl
 
 tail_steps : AfterTail → (options : Options) (p : ProgramView) → WellFormed p
@@ -136,16 +134,16 @@ tail_steps : AfterTail → (options : Options) (p : ProgramView) → WellFormed 
 tail_steps after_tail options p w =
     steps_each options (tail_shapes p.qregs p.cregs) (λ done. reading (so_far p.qregs p.cregs p.gates done)) p.tail
     (λ done t rest e.
-        let E : Env = reading (so_far p.qregs p.cregs p.gates done) in
-        let whole : p.tail ≡ (done ++ t ∷ []) ++ rest = e ∙ sym (append_assoc done (t ∷ []) rest) in
-        let within : entries_of ((done ++ t ∷ []) ++ rest) ≤ 1048576 = subst (λ l. entries_of l ≤ 1048576) whole w.entries in
-        let room : entries_of (done ++ t ∷ []) ≤ 1048576 = omega (arith, entries_of-append (done ++ t ∷ []) rest) in
-        let entry : IsTailEntry (places_of p.qregs) (places_of p.cregs) t =
-        all_here (IsTailEntry (places_of p.qregs) (places_of p.cregs)) done t rest (subst (All (IsTailEntry (places_of p.qregs) (places_of p.cregs))) e w.tail)
-        in
-        steps_by options E (with_tail E (done ++ t ∷ [])) (tail_shapes p.qregs p.cregs t) (tail_is_line p.qregs p.cregs t) (λ front shaped.
-            after_tail options E t front refl refl (all_left IsRegister p.qregs p.cregs w.registers) (all_right IsRegister p.qregs p.cregs w.registers)
-            (pairs_left (λ q r. q.name ≡ r.name → ⊥) p.qregs p.cregs w.names) (pairs_right (λ q r. q.name ≡ r.name → ⊥) p.qregs p.cregs w.names) entry room shaped))
+    let E : Env = reading (so_far p.qregs p.cregs p.gates done) in
+    let whole : p.tail ≡ (done ++ t ∷ []) ++ rest = e ∙ sym (append_assoc done (t ∷ []) rest) in
+    let within : entries_of ((done ++ t ∷ []) ++ rest) ≤ 1048576 = subst (λ l. entries_of l ≤ 1048576) whole w.entries in
+    let room : entries_of (done ++ t ∷ []) ≤ 1048576 = omega (arith, entries_of-append (done ++ t ∷ []) rest) in
+    let entry : IsTailEntry (places_of p.qregs) (places_of p.cregs) t =
+    all_here (IsTailEntry (places_of p.qregs) (places_of p.cregs)) done t rest (subst (All (IsTailEntry (places_of p.qregs) (places_of p.cregs))) e w.tail)
+    in
+    steps_by options E (with_tail E (done ++ t ∷ [])) (tail_shapes p.qregs p.cregs t) (tail_is_line p.qregs p.cregs t) (λ front shaped.
+    after_tail options E t front refl refl (all_left IsRegister p.qregs p.cregs w.registers) (all_right IsRegister p.qregs p.cregs w.registers)
+    (pairs_left (λ q r. q.name ≡ r.name → ⊥) p.qregs p.cregs w.names) (pairs_right (λ q r. q.name ≡ r.name → ⊥) p.qregs p.cregs w.names) w.qubits w.bits entry room shaped))
     [] p.tail refl
 
 -- the lines of the whole text, one kind after another
