@@ -1,3 +1,4 @@
 pub mod Shapes
 pub mod Steps
 pub mod Arguments
+pub mod GateLines
