@@ -46,6 +46,10 @@ is_placed (s ∷ ss) (t ∷ ts) h =
     let more : map shape_of ts ≡ ss = cc in
     λ i. token_at (first i) t ∷ is_placed ss ts more i
 
+-- the tokens after an argument and one token more
+abbrev pub from_fifth : (ℕ → TokenView) → ℕ → TokenView
+from_fifth spots k = spots (suc (suc (suc (suc (suc k)))))
+
 -- A place of the registers, of which the first begins at a place, is one of a register that is found.
 pub record IsPlace (first : ℕ) (regs : List RegisterView) (place : ℕ) : Type 0 where
   pub name : List ℕ

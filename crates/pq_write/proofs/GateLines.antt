@@ -17,14 +17,14 @@ use Rattle.pq_read.specs.declared.word.GateWord.{GateWord}
 use Rattle.pq_read.specs.declared.word.GateWord.TheVariants as words
 use Rattle.pq_read.specs.declared.word.FirstWord.{FirstWord}
 use Rattle.pq_read.specs.declared.word.FirstWord.TheVariants.{Gate as KnownGate}
-use Rattle.pq_read.specs.Faults.{refused}
+use Rattle.pq_read.specs.Faults.{◌>>=◌, refused}
 use Rattle.pq_read.specs.Words.{more_arguments, first_word}
 use Rattle.pq_read.specs.Environment.{Env}
 use Rattle.pq_read.specs.Arguments.{arguments_after, arguments_at}
 use Rattle.pq_read.specs.Expansion.{gates_of}
-use Rattle.pq_read.specs.After.{allowed, gate_at, statement_at, piece_at, with_gates, after}
+use Rattle.pq_read.specs.After.{header_at, allowed, gate_at, put, statement_by, statement_at, piece_at, with_gates, after}
 use Rattle.pq_write.proofs.Shapes.{Shape, shape, shape_of, comma, semicolon, indexed_shapes, place_shapes, gate_shapes}
-use Rattle.pq_write.proofs.Arguments.{token_at, placed, nth, is_placed, untrue, IsPlace, place_from, argument_of, place_read}
+use Rattle.pq_write.proofs.Arguments.{token_at, placed, nth, is_placed, untrue, from_fifth, IsPlace, place_from, argument_of, place_read}
 
 -- the tokens after the first word
 abbrev pub one_place : {regs : List RegisterView} {w : ℕ} → IsPlace 0 regs w → List Shape
@@ -32,6 +32,10 @@ one_place p = indexed_shapes p.name p.index ++ semicolon ∷ []
 
 abbrev pub two_places : {regs : List RegisterView} {v w : ℕ} → IsPlace 0 regs v → IsPlace 0 regs w → List Shape
 two_places p q = (indexed_shapes p.name p.index ++ (comma ∷ indexed_shapes q.name q.index)) ++ semicolon ∷ []
+
+-- what has been read after a statement
+abbrev done : (Env × List TokenView) → Result Env Refusal
+done x = Ok x.0
 
 and_false : (b : Bool) → (b && false) ≡ false
 and_false true = refl
@@ -57,21 +61,33 @@ two_read : (word : GateWord) (regs : List RegisterView) (old new : List Gate) (v
 unfolding gate_at arguments_at arguments_after
 two_read word regs old new v w p q spots one apart made room =
     rw (
-      place_read regs v p spots (token_at comma (spots 4) ∷ placed (one_place q) (λ k. spots (5 + k))),
+      place_read regs v p spots (token_at comma (spots 4) ∷ placed (one_place q) (from_fifth spots)),
       one,
-      place_read regs w q (λ k. spots (5 + k)) (token_at semicolon (spots 9) ∷ []),
+      place_read regs w q (from_fifth spots) (token_at semicolon (spots 9) ∷ []),
       apart,
       made,
       room
     ) refl
 
+-- a statement whose first word is this one
+pub statement_read : (options : Options) (E : Env) (word : List ℕ) (known : FirstWord) (t : TokenView) (ts : List TokenView) (F : Env)
+    → E.header ≡ true → E.included ≡ true → first_word true word ≡ known
+    → statement_by known options E (token_at (shape Word word) t) ts ≡ Ok (F, []) → after options E (token_at (shape Word word) t ∷ ts) ≡ Ok F
+unfolding piece_at statement_at
+statement_read options E word known t ts F header included first read =
+    let first_token : TokenView = token_at (shape Word word) t in
+    ap (λ b. cond b (statement_at options E (first_token ∷ ts)) (put (header_at (first_token ∷ ts)) (λ _. record { header = true; included = E.included; program = E.program })) >>= done) header
+    ∙ (ap (λ b. statement_by (first_word b word) options E first_token ts >>= done) included
+    ∙ (ap (λ f. statement_by f options E first_token ts >>= done) first
+    ∙ ap (λ r. r >>= done) read))
+
 -- a statement of a gate by its word
 gate_read : (options : Options) (E : Env) (word : List ℕ) (known : GateWord) (t : TokenView) (ts : List TokenView) (gates : List Gate)
     → E.header ≡ true → E.included ≡ true → E.program.tail ≡ [] → first_word true word ≡ KnownGate known
     → gate_at known E.program.qregs E.program.gates ts ≡ Ok (gates, []) → after options E (token_at (shape Word word) t ∷ ts) ≡ Ok (with_gates E gates)
-unfolding piece_at statement_at
 gate_read options E word known t ts gates header included none first read =
-    rw (header, included, first, gate_allowed options E.program.tail (token_at (shape Word word) t) none, read) refl
+    statement_read options E word (KnownGate known) t ts (with_gates E gates) header included first
+      (rw (gate_allowed options E.program.tail (token_at (shape Word word) t) none, read) refl)
 
 phase_known : (e : Eighths) → first_word true (phase_word e) ≡ KnownGate (words.Phase e)
 phase_known T = refl

@@ -2,3 +2,4 @@ pub mod Shapes
 pub mod Steps
 pub mod Arguments
 pub mod GateLines
+pub mod TailLines
