@@ -1,5 +1,5 @@
 -- A text whose tokens are those of a program's canonical text is read as this program.
-use Rattle.std.proofs.Common.{◌≡◌, ◌≢◌, ℕ, ◌+◌, ◌<◌, ◌≤◌, true, false, ◌||◌, List, [], ◌∷◌, ◌++◌, length, map, flat_map, get_or, All, AllPairs, Ok, codes, refl, sym, ap, ◌∙◌, subst, arith, append_assoc, length-append}
+use Rattle.std.proofs.Common.{◌≡◌, ℕ, ◌+◌, ◌<◌, ◌≤◌, false, ◌||◌, List, [], ◌∷◌, ◌++◌, length, map, flat_map, get_or, All, AllPairs, Ok, codes, refl, sym, ap, ◌∙◌, subst, arith, append_assoc, length-append}
 use Rattle.std.specs.List.{AllByRecursion}
 use Rattle.std.proofs.lemmas.List.{append-nil, get_or_append_left, get_or-append-add}
 use Rattle.std.proofs.lemmas.List.Concat.{flat_map-cons}
@@ -12,33 +12,16 @@ use Rattle.pq_text.specs.Program.{RegisterView, TailView, ProgramView, places_of
 use Rattle.pq_text.specs.WellFormed.{IsRegister, IsTailEntry, WellFormed}
 use Rattle.pq_read.specs.declared.program.Options.{Options}
 use Rattle.pq_read.specs.Environment.{Env, start}
-use Rattle.pq_read.specs.After.{is_taken, with_gates, with_tail, after}
+use Rattle.pq_read.specs.After.{is_taken, with_gates, with_tail}
 use Rattle.pq_read.specs.Reads.{read_tokens}
 use Rattle.pq_read.proofs.Counts.{places_of-append, entries_of-append}
 use Rattle.pq_read.proofs.Pieces.{read_done}
 use Rattle.pq_write.proofs.Shapes.{Shape, shape_of, missing, header_shapes, include_shapes, register_shapes, gate_shapes, tail_shapes, program_shapes}
 use Rattle.pq_write.proofs.Steps.{Steps}
+use Rattle.pq_write.proofs.GateLines.{after_gate}
+use Rattle.pq_write.proofs.TailLines.{after_tail}
 use Rattle.pq_write.proofs.Frame.{steps_by, steps_none, steps_join, parts_of, placed, placed_all}
 use Rattle.pq_write.proofs.Lines.{begun, reading, header_steps, include_steps, not_found, qreg_steps, creg_steps, gate_is_line, tail_is_line}
-
--- how a gate's line and a line of the tail are read
-abbrev pub AfterGate : Type 0
-AfterGate =
-    (options : Options) (E : Env) (g : Gate) (front : List TokenView) → E.header ≡ true → E.included ≡ true → E.program.tail ≡ []
-    → All IsRegister E.program.qregs → AllPairs (λ q r. q.name ≢ r.name) E.program.qregs
-    → places_of E.program.qregs ≤ 4096 → IsOnWires (places_of E.program.qregs) g
-    → length E.program.gates < 1048576 → map shape_of front ≡ gate_shapes E.program.qregs g
-    → after options E front ≡ Ok (with_gates E (E.program.gates ++ g ∷ []))
-
-abbrev pub AfterTail : Type 0
-AfterTail =
-    (options : Options) (E : Env) (t : TailView) (front : List TokenView) → E.header ≡ true → E.included ≡ true
-    → All IsRegister E.program.qregs → All IsRegister E.program.cregs
-    → AllPairs (λ q r. q.name ≢ r.name) E.program.qregs → AllPairs (λ q r. q.name ≢ r.name) E.program.cregs
-    → places_of E.program.qregs ≤ 4096 → places_of E.program.cregs ≤ 4096
-    → IsTailEntry (places_of E.program.qregs) (places_of E.program.cregs) t → entries_of (E.program.tail ++ t ∷ []) ≤ 1048576
-    → map shape_of front ≡ tail_shapes E.program.qregs E.program.cregs t
-    → after options E front ≡ Ok (with_tail E (E.program.tail ++ t ∷ []))
 
 -- what holds of a list holds of its parts
 all_left : {A : Type 0} (P : A → Type 0) (xs ys : List A) → All P (xs ++ ys) → All P xs
@@ -115,9 +98,9 @@ cregs_steps options qregs cregs registers names room =
     (registers_room done r rest (subst (λ l. places_of l ≤ 4096) e room)))
     [] cregs refl
 
-gates_steps : AfterGate → (options : Options) (p : ProgramView) → WellFormed p
+gates_steps : (options : Options) (p : ProgramView) → WellFormed p
     → Steps options (flat_map (gate_shapes p.qregs) p.gates) (reading (so_far p.qregs p.cregs [] [])) (reading (so_far p.qregs p.cregs p.gates []))
-gates_steps after_gate options p w =
+gates_steps options p w =
     steps_each options (gate_shapes p.qregs) (λ done. reading (so_far p.qregs p.cregs done [])) p.gates
     (λ done g rest e.
     let E : Env = reading (so_far p.qregs p.cregs done []) in
@@ -129,9 +112,9 @@ gates_steps after_gate options p w =
     (pairs_left (λ q r. q.name ≡ r.name → ⊥) p.qregs p.cregs w.names) w.qubits on room shaped))
     [] p.gates refl
 
-tail_steps : AfterTail → (options : Options) (p : ProgramView) → WellFormed p
+tail_steps : (options : Options) (p : ProgramView) → WellFormed p
     → Steps options (flat_map (tail_shapes p.qregs p.cregs) p.tail) (reading (so_far p.qregs p.cregs p.gates [])) (reading p)
-tail_steps after_tail options p w =
+tail_steps options p w =
     steps_each options (tail_shapes p.qregs p.cregs) (λ done. reading (so_far p.qregs p.cregs p.gates done)) p.tail
     (λ done t rest e.
     let E : Env = reading (so_far p.qregs p.cregs p.gates done) in
@@ -147,8 +130,8 @@ tail_steps after_tail options p w =
     [] p.tail refl
 
 -- the lines of the whole text, one kind after another
-program_steps : AfterGate → AfterTail → (options : Options) (p : ProgramView) → WellFormed p → Steps options (program_shapes p) start (reading p)
-program_steps after_gate after_tail options p w =
+program_steps : (options : Options) (p : ProgramView) → WellFormed p → Steps options (program_shapes p) start (reading p)
+program_steps options p w =
     let tail : List Shape = flat_map (tail_shapes p.qregs p.cregs) p.tail in
     let gates : List Shape = flat_map (gate_shapes p.qregs) p.gates in
     let cregs : List Shape = flat_map (register_shapes (codes "creg")) p.cregs in
@@ -157,7 +140,7 @@ program_steps after_gate after_tail options p w =
     let all : Env = reading (so_far p.qregs p.cregs [] []) in
     let circuit : Env = reading (so_far p.qregs p.cregs p.gates []) in
     let from_gates : Steps options (gates ++ tail) all (reading p) =
-    steps_join options gates tail all circuit (reading p) (gates_steps after_gate options p w) (tail_steps after_tail options p w)
+    steps_join options gates tail all circuit (reading p) (gates_steps options p w) (tail_steps options p w)
     in
     let from_cregs : Steps options (cregs ++ (gates ++ tail)) some (reading p) =
     steps_join options cregs (gates ++ tail) some all (reading p) (cregs_steps options p.qregs p.cregs w.registers w.names w.bits) from_gates
@@ -175,9 +158,9 @@ end_read options p =
     placed_all (missing ∷ []) (λ (ts : List TokenView). read_tokens options (reading p) ts ≡ Ok p)
     (λ line column. read_done options (reading p) (placed missing line column ∷ []) refl refl)
 
-pub reads_back : AfterGate → AfterTail → (p : ProgramView) (options : Options) (ts : List TokenView) → WellFormed p → map shape_of ts ≡ program_shapes p ++ missing ∷ []
+pub reads_back : (p : ProgramView) (options : Options) (ts : List TokenView) → WellFormed p → map shape_of ts ≡ program_shapes p ++ missing ∷ []
     → read_tokens options start ts ≡ Ok p
-reads_back after_gate after_tail p options ts w shaped =
+reads_back p options ts w shaped =
     let parts = parts_of (program_shapes p) (missing ∷ []) ts shaped in
     ap (read_tokens options start) parts.whole
-    ∙ (program_steps after_gate after_tail options p w parts.first parts.second parts.first_shaped ∙ end_read options p parts.second parts.second_shaped)
+    ∙ (program_steps options p w parts.first parts.second parts.first_shaped ∙ end_read options p parts.second parts.second_shaped)
