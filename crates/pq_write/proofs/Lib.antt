@@ -1,2 +1,4 @@
 pub mod Shapes
 pub mod Steps
+pub mod LexingTokens
+pub mod Lexing
