@@ -6,18 +6,21 @@ use Rattle.std.proofs.lemmas.List.Concat.{flat_map-cons}
 use Rattle.std.proofs.lemmas.List.Elements.{All-head}
 use Rattle.std.proofs.Math.Seq.{get_or-append_seam}
 use Rattle.pq_lex.specs.Token.{TokenView}
+use Rattle.pq_lex.specs.Lex.{tokens_of}
 use Rattle.pq_gate.specs.declared.gate.Gate.{Gate}
 use Rattle.pq_gate.specs.Circuit.{IsOnWires}
 use Rattle.pq_text.specs.Program.{RegisterView, TailView, ProgramView, places_of, entries_of}
+use Rattle.pq_text.specs.Print.{print}
 use Rattle.pq_text.specs.WellFormed.{IsRegister, IsTailEntry, WellFormed}
 use Rattle.pq_read.specs.declared.program.Options.{Options}
 use Rattle.pq_read.specs.Environment.{Env, start}
 use Rattle.pq_read.specs.After.{is_taken, with_gates, with_tail}
-use Rattle.pq_read.specs.Reads.{read_tokens}
+use Rattle.pq_read.specs.Reads.{read_tokens, Reads}
 use Rattle.pq_read.proofs.Counts.{places_of-append, entries_of-append}
-use Rattle.pq_read.proofs.Pieces.{read_done}
+use Rattle.pq_read.proofs.Pieces.{read_done, reads_for}
 use Rattle.pq_write.proofs.Shapes.{Shape, shape_of, missing, header_shapes, include_shapes, register_shapes, gate_shapes, tail_shapes, program_shapes}
 use Rattle.pq_write.proofs.Steps.{Steps}
+use Rattle.pq_write.proofs.Lexing.{lexed_program}
 use Rattle.pq_write.proofs.GateLines.{after_gate}
 use Rattle.pq_write.proofs.TailLines.{after_tail}
 use Rattle.pq_write.proofs.Frame.{steps_by, steps_none, steps_join, parts_of, placed, placed_all}
@@ -164,3 +167,9 @@ reads_back p options ts w shaped =
     let parts = parts_of (program_shapes p) (missing ∷ []) ts shaped in
     ap (read_tokens options start) parts.whole
     ∙ (program_steps options p w parts.first parts.second parts.first_shaped ∙ end_read options p parts.second parts.second_shaped)
+
+-- the canonical text of a well-formed program
+pub reads_printed : (p : ProgramView) (options : Options) → WellFormed p → Reads (print p) options p
+reads_printed p options w =
+    let ts : List TokenView = tokens_of (print p) in
+    reads_for (print p) options ts p p refl (reads_back p options ts w (lexed_program p w)) refl
