@@ -57,12 +57,15 @@ include_steps options =
     (placed_all include_shapes (λ (front : List TokenView). after options begun front ≡ Ok (reading start.program)) (λ l1 c1 l2 c2 l3 c3. refl))
 
 -- a name that no register has
-pub not_found : (regs : List RegisterView) (first : ℕ) (name : List ℕ) → All (λ q. q.name ≡ name → ⊥) regs → is_some (span_from first regs name) ≡ false
+abbrev pub IsNotNamed : List ℕ → RegisterView → Type 0
+IsNotNamed name q = q.name ≡ name → ⊥
+
+pub not_found : (regs : List RegisterView) (first : ℕ) (name : List ℕ) → All (IsNotNamed name) regs → is_some (span_from first regs name) ≡ false
 not_found [] first name h = refl
 not_found (r ∷ rs) first name h =
     elim (bytes_eq r.name name) as (λ b. bytes_eq r.name name ≡ b → is_some (cond b (Some (let s : Span = record { first = first; size = r.size } in s)) (span_from (first + r.size) rs name)) ≡ false) [
-      | true ↦ λ is. absurd (All-head (λ q. q.name ≡ name → ⊥) r rs h ((bytes_eq-Decides r.name name).0 is))
-      | false ↦ λ is. not_found rs (first + r.size) name (All-tail (λ q. q.name ≡ name → ⊥) r rs h)
+      | true ↦ λ is. absurd (All-head (IsNotNamed name) r rs h ((bytes_eq-Decides r.name name).0 is))
+      | false ↦ λ is. not_found rs (first + r.size) name (All-tail (IsNotNamed name) r rs h)
     ] refl
 
 pub free_name : (qregs cregs : List RegisterView) (t : TokenView) → is_name t.bytes ≡ true → length t.bytes ≤ 64 → is_taken qregs cregs t.bytes ≡ false

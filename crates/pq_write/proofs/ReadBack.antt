@@ -3,12 +3,12 @@ use Rattle.std.proofs.Common.{◌≡◌, ℕ, ◌+◌, ◌<◌, ◌≤◌, false
 use Rattle.std.specs.List.{AllByRecursion}
 use Rattle.std.proofs.lemmas.List.{append-nil, get_or_append_left, get_or-append-add}
 use Rattle.std.proofs.lemmas.List.Concat.{flat_map-cons}
-use Rattle.std.proofs.lemmas.List.Elements.{All-head}
+use Rattle.std.proofs.lemmas.List.Elements.{All-head, All-nil}
 use Rattle.std.proofs.Math.Seq.{get_or-append_seam}
 use Rattle.pq_lex.specs.Token.{TokenView}
 use Rattle.pq_lex.specs.Lex.{tokens_of}
 use Rattle.pq_gate.specs.declared.gate.Gate.{Gate}
-use Rattle.pq_gate.specs.Circuit.{IsOnWires}
+use Rattle.pq_gate.specs.Circuit.{IsOnWires, IsCircuit}
 use Rattle.pq_text.specs.Program.{RegisterView, TailView, ProgramView, places_of, entries_of}
 use Rattle.pq_text.specs.Print.{print}
 use Rattle.pq_text.specs.WellFormed.{IsRegister, IsTailEntry, WellFormed}
@@ -24,7 +24,7 @@ use Rattle.pq_write.proofs.Lexing.{lexed_program}
 use Rattle.pq_write.proofs.GateLines.{after_gate}
 use Rattle.pq_write.proofs.TailLines.{after_tail}
 use Rattle.pq_write.proofs.Frame.{steps_by, steps_none, steps_join, parts_of, placed, placed_all}
-use Rattle.pq_write.proofs.Lines.{begun, reading, header_steps, include_steps, not_found, qreg_steps, creg_steps, gate_is_line, tail_is_line}
+use Rattle.pq_write.proofs.Lines.{begun, reading, header_steps, include_steps, IsNotNamed, not_found, qreg_steps, creg_steps, gate_is_line, tail_is_line}
 
 -- what holds of a list holds of its parts
 all_left : {A : Type 0} (P : A → Type 0) (xs ys : List A) → All P (xs ++ ys) → All P xs
@@ -66,71 +66,91 @@ steps_each options shapes read all each done (x ∷ rest) whole =
     (steps_join options (shapes x) (flat_map shapes rest) (read done) (read (done ++ x ∷ [])) (read all) (each done x rest whole)
     (steps_each options shapes read all each (done ++ x ∷ []) rest (whole ∙ sym (append_assoc done (x ∷ []) rest))))
 
-not_taken : (qregs cregs : List RegisterView) (name : List ℕ) → All (λ q. q.name ≡ name → ⊥) qregs → All (λ q. q.name ≡ name → ⊥) cregs → is_taken qregs cregs name ≡ false
+-- two registers with different names
+abbrev pub OtherName : RegisterView → RegisterView → Type 0
+OtherName q r = q.name ≡ r.name → ⊥
+
+not_taken : (qregs cregs : List RegisterView) (name : List ℕ) → All (IsNotNamed name) qregs → All (IsNotNamed name) cregs → is_taken qregs cregs name ≡ false
 not_taken qregs cregs name q c = λ i. not_found qregs 0 name q i || not_found cregs 0 name c i
 
-registers_room : (before : List RegisterView) (r : RegisterView) (later : List RegisterView) → places_of (before ++ r ∷ later) ≤ 4096 → places_of before + r.size ≤ 4096
-registers_room before r later h =
-    let e : places_of (before ++ r ∷ later) ≡ places_of before + places_of (r ∷ later) = places_of-append before (r ∷ later) in omega arith
+registers_room : (all before : List RegisterView) (r : RegisterView) (later : List RegisterView) → all ≡ before ++ r ∷ later → places_of all ≤ 4096
+    → places_of before + r.size ≤ 4096
+registers_room all before r later whole h =
+    let e : places_of all ≡ places_of before + places_of (r ∷ later) = ap places_of whole ∙ places_of-append before (r ∷ later) in omega arith
 
 -- the program so far
 abbrev pub so_far : List RegisterView → List RegisterView → List Gate → List TailView → ProgramView
 so_far qregs cregs gates tail = record { qregs = qregs; cregs = cregs; gates = gates; tail = tail }
 
-qregs_steps : (options : Options) (qregs : List RegisterView) → All IsRegister qregs → AllPairs (λ q r. q.name ≡ r.name → ⊥) qregs → places_of qregs ≤ 4096
+-- the quantum registers
+qreg_next : (options : Options) (qregs : List RegisterView) → All IsRegister qregs → AllPairs OtherName qregs → places_of qregs ≤ 4096
+    → (done : List RegisterView) (r : RegisterView) (rest : List RegisterView) → qregs ≡ done ++ r ∷ rest
+    → Steps options (register_shapes (codes "qreg") r) (reading (so_far done [] [] [])) (reading (so_far (done ++ r ∷ []) [] [] []))
+qreg_next options qregs registers names room done r rest whole =
+    let register : IsRegister r = all_here IsRegister done r rest (subst (All IsRegister) whole registers) in
+    let free : All (IsNotNamed r.name) done = pairs_here OtherName done r rest (subst (AllPairs OtherName) whole names) in
+    qreg_steps options (so_far done [] [] []) r register (not_taken done [] r.name free (All-nil (IsNotNamed r.name))) (registers_room qregs done r rest whole room)
+
+qregs_steps : (options : Options) (qregs : List RegisterView) → All IsRegister qregs → AllPairs OtherName qregs → places_of qregs ≤ 4096
     → Steps options (flat_map (register_shapes (codes "qreg")) qregs) (reading start.program) (reading (so_far qregs [] [] []))
 qregs_steps options qregs registers names room =
-    steps_each options (register_shapes (codes "qreg")) (λ done. reading (so_far done [] [] [])) qregs
-    (λ done r rest e.
-    qreg_steps options (so_far done [] [] []) r (all_here IsRegister done r rest (subst (All IsRegister) e registers))
-    (not_taken done [] r.name (pairs_here (λ q r. q.name ≡ r.name → ⊥) done r rest (subst (AllPairs (λ q r. q.name ≡ r.name → ⊥)) e names)) (λ k d lt. absurd (omega arith)))
-    (registers_room done r rest (subst (λ l. places_of l ≤ 4096) e room)))
-    [] qregs refl
+    steps_each options (register_shapes (codes "qreg")) (λ done. reading (so_far done [] [] [])) qregs (qreg_next options qregs registers names room) [] qregs refl
 
-cregs_steps : (options : Options) (qregs cregs : List RegisterView) → All IsRegister (qregs ++ cregs) → AllPairs (λ q r. q.name ≡ r.name → ⊥) (qregs ++ cregs) → places_of cregs ≤ 4096
+-- the classical ones, after them
+creg_next : (options : Options) (qregs cregs : List RegisterView) → All IsRegister (qregs ++ cregs) → AllPairs OtherName (qregs ++ cregs) → places_of cregs ≤ 4096
+    → (done : List RegisterView) (r : RegisterView) (rest : List RegisterView) → cregs ≡ done ++ r ∷ rest
+    → Steps options (register_shapes (codes "creg") r) (reading (so_far qregs done [] [])) (reading (so_far qregs (done ++ r ∷ []) [] []))
+creg_next options qregs cregs registers names room done r rest whole =
+    let before : qregs ++ cregs ≡ (qregs ++ done) ++ r ∷ rest = ap (λ l. qregs ++ l) whole ∙ sym (append_assoc qregs done (r ∷ rest)) in
+    let register : IsRegister r = all_here IsRegister (qregs ++ done) r rest (subst (All IsRegister) before registers) in
+    let free : All (IsNotNamed r.name) (qregs ++ done) = pairs_here OtherName (qregs ++ done) r rest (subst (AllPairs OtherName) before names) in
+    creg_steps options (so_far qregs done [] []) r register
+    (not_taken qregs done r.name (all_left (IsNotNamed r.name) qregs done free) (all_right (IsNotNamed r.name) qregs done free)) (registers_room cregs done r rest whole room)
+
+cregs_steps : (options : Options) (qregs cregs : List RegisterView) → All IsRegister (qregs ++ cregs) → AllPairs OtherName (qregs ++ cregs) → places_of cregs ≤ 4096
     → Steps options (flat_map (register_shapes (codes "creg")) cregs) (reading (so_far qregs [] [] [])) (reading (so_far qregs cregs [] []))
 cregs_steps options qregs cregs registers names room =
-    steps_each options (register_shapes (codes "creg")) (λ done. reading (so_far qregs done [] [])) cregs
-    (λ done r rest e.
-    let before : qregs ++ cregs ≡ (qregs ++ done) ++ r ∷ rest = ap (λ l. qregs ++ l) e ∙ sym (append_assoc qregs done (r ∷ rest)) in
-    let free : All (λ q. q.name ≡ r.name → ⊥) (qregs ++ done) =
-    pairs_here (λ q r. q.name ≡ r.name → ⊥) (qregs ++ done) r rest (subst (AllPairs (λ q r. q.name ≡ r.name → ⊥)) before names)
-    in
-    creg_steps options (so_far qregs done [] []) r (all_here IsRegister (qregs ++ done) r rest (subst (All IsRegister) before registers))
-    (not_taken qregs done r.name (all_left (λ q. q.name ≡ r.name → ⊥) qregs done free) (all_right (λ q. q.name ≡ r.name → ⊥) qregs done free))
-    (registers_room done r rest (subst (λ l. places_of l ≤ 4096) e room)))
-    [] cregs refl
+    steps_each options (register_shapes (codes "creg")) (λ done. reading (so_far qregs done [] [])) cregs (creg_next options qregs cregs registers names room) [] cregs refl
+
+-- the gates
+gate_next : (options : Options) (p : ProgramView) → WellFormed p → (done : List Gate) (g : Gate) (rest : List Gate) → p.gates ≡ done ++ g ∷ rest
+    → Steps options (gate_shapes p.qregs g) (reading (so_far p.qregs p.cregs done [])) (reading (so_far p.qregs p.cregs (done ++ g ∷ []) []))
+gate_next options p w done g rest whole =
+    let E : Env = reading (so_far p.qregs p.cregs done []) in
+    let within : length (done ++ g ∷ rest) ≤ 1048576 = subst (λ l. length l ≤ 1048576) whole w.gates in
+    let few : length done < 1048576 = omega (arith, length-append done (g ∷ rest)) in
+    let on : IsOnWires (places_of p.qregs) g = each_here (IsOnWires (places_of p.qregs)) done g rest (subst (IsCircuit (places_of p.qregs)) whole w.circuit) in
+    let registers : All IsRegister p.qregs = all_left IsRegister p.qregs p.cregs w.registers in
+    let names : AllPairs OtherName p.qregs = pairs_left OtherName p.qregs p.cregs w.names in
+    steps_by options E (with_gates E (done ++ g ∷ [])) (gate_shapes p.qregs g) (gate_is_line p.qregs g)
+    (λ front shaped. after_gate options E g front refl refl refl registers names w.qubits on few shaped)
 
 gates_steps : (options : Options) (p : ProgramView) → WellFormed p
     → Steps options (flat_map (gate_shapes p.qregs) p.gates) (reading (so_far p.qregs p.cregs [] [])) (reading (so_far p.qregs p.cregs p.gates []))
 gates_steps options p w =
-    steps_each options (gate_shapes p.qregs) (λ done. reading (so_far p.qregs p.cregs done [])) p.gates
-    (λ done g rest e.
-    let E : Env = reading (so_far p.qregs p.cregs done []) in
-    let within : length (done ++ g ∷ rest) ≤ 1048576 = subst (λ l. length l ≤ 1048576) e w.gates in
-    let room : length done < 1048576 = omega (arith, length-append done (g ∷ rest)) in
-    let on : IsOnWires (places_of p.qregs) g = each_here (IsOnWires (places_of p.qregs)) done g rest (subst (AllByRecursion (IsOnWires (places_of p.qregs))) e w.circuit) in
-    steps_by options E (with_gates E (done ++ g ∷ [])) (gate_shapes p.qregs g) (gate_is_line p.qregs g) (λ front shaped.
-    after_gate options E g front refl refl refl (all_left IsRegister p.qregs p.cregs w.registers)
-    (pairs_left (λ q r. q.name ≡ r.name → ⊥) p.qregs p.cregs w.names) w.qubits on room shaped))
-    [] p.gates refl
+    steps_each options (gate_shapes p.qregs) (λ done. reading (so_far p.qregs p.cregs done [])) p.gates (gate_next options p w) [] p.gates refl
+
+-- the tail
+tail_next : (options : Options) (p : ProgramView) → WellFormed p → (done : List TailView) (t : TailView) (rest : List TailView) → p.tail ≡ done ++ t ∷ rest
+    → Steps options (tail_shapes p.qregs p.cregs t) (reading (so_far p.qregs p.cregs p.gates done)) (reading (so_far p.qregs p.cregs p.gates (done ++ t ∷ [])))
+tail_next options p w done t rest whole =
+    let E : Env = reading (so_far p.qregs p.cregs p.gates done) in
+    let again : p.tail ≡ (done ++ t ∷ []) ++ rest = whole ∙ sym (append_assoc done (t ∷ []) rest) in
+    let within : entries_of ((done ++ t ∷ []) ++ rest) ≤ 1048576 = subst (λ l. entries_of l ≤ 1048576) again w.entries in
+    let few : entries_of (done ++ t ∷ []) ≤ 1048576 = omega (arith, entries_of-append (done ++ t ∷ []) rest) in
+    let in_range : All (IsTailEntry (places_of p.qregs) (places_of p.cregs)) (done ++ t ∷ rest) = subst (All (IsTailEntry (places_of p.qregs) (places_of p.cregs))) whole w.tail in
+    let entry : IsTailEntry (places_of p.qregs) (places_of p.cregs) t = all_here (IsTailEntry (places_of p.qregs) (places_of p.cregs)) done t rest in_range in
+    let q_each : All IsRegister p.qregs = all_left IsRegister p.qregs p.cregs w.registers in
+    let c_each : All IsRegister p.cregs = all_right IsRegister p.qregs p.cregs w.registers in
+    let q_names : AllPairs OtherName p.qregs = pairs_left OtherName p.qregs p.cregs w.names in
+    let c_names : AllPairs OtherName p.cregs = pairs_right OtherName p.qregs p.cregs w.names in
+    steps_by options E (with_tail E (done ++ t ∷ [])) (tail_shapes p.qregs p.cregs t) (tail_is_line p.qregs p.cregs t)
+    (λ front shaped. after_tail options E t front refl refl q_each c_each q_names c_names w.qubits w.bits entry few shaped)
 
 tail_steps : (options : Options) (p : ProgramView) → WellFormed p
     → Steps options (flat_map (tail_shapes p.qregs p.cregs) p.tail) (reading (so_far p.qregs p.cregs p.gates [])) (reading p)
 tail_steps options p w =
-    steps_each options (tail_shapes p.qregs p.cregs) (λ done. reading (so_far p.qregs p.cregs p.gates done)) p.tail
-    (λ done t rest e.
-    let E : Env = reading (so_far p.qregs p.cregs p.gates done) in
-    let whole : p.tail ≡ (done ++ t ∷ []) ++ rest = e ∙ sym (append_assoc done (t ∷ []) rest) in
-    let within : entries_of ((done ++ t ∷ []) ++ rest) ≤ 1048576 = subst (λ l. entries_of l ≤ 1048576) whole w.entries in
-    let room : entries_of (done ++ t ∷ []) ≤ 1048576 = omega (arith, entries_of-append (done ++ t ∷ []) rest) in
-    let entry : IsTailEntry (places_of p.qregs) (places_of p.cregs) t =
-    all_here (IsTailEntry (places_of p.qregs) (places_of p.cregs)) done t rest (subst (All (IsTailEntry (places_of p.qregs) (places_of p.cregs))) e w.tail)
-    in
-    steps_by options E (with_tail E (done ++ t ∷ [])) (tail_shapes p.qregs p.cregs t) (tail_is_line p.qregs p.cregs t) (λ front shaped.
-    after_tail options E t front refl refl (all_left IsRegister p.qregs p.cregs w.registers) (all_right IsRegister p.qregs p.cregs w.registers)
-    (pairs_left (λ q r. q.name ≡ r.name → ⊥) p.qregs p.cregs w.names) (pairs_right (λ q r. q.name ≡ r.name → ⊥) p.qregs p.cregs w.names) w.qubits w.bits entry room shaped))
-    [] p.tail refl
+    steps_each options (tail_shapes p.qregs p.cregs) (λ done. reading (so_far p.qregs p.cregs p.gates done)) p.tail (tail_next options p w) [] p.tail refl
 
 -- the lines of the whole text, one kind after another
 program_steps : (options : Options) (p : ProgramView) → WellFormed p → Steps options (program_shapes p) start (reading p)
@@ -150,7 +170,7 @@ program_steps options p w =
     in
     let from_qregs : Steps options (qregs ++ (cregs ++ (gates ++ tail))) (reading start.program) (reading p) =
     steps_join options qregs (cregs ++ (gates ++ tail)) (reading start.program) some (reading p)
-    (qregs_steps options p.qregs (all_left IsRegister p.qregs p.cregs w.registers) (pairs_left (λ q r. q.name ≡ r.name → ⊥) p.qregs p.cregs w.names) w.qubits) from_cregs
+    (qregs_steps options p.qregs (all_left IsRegister p.qregs p.cregs w.registers) (pairs_left OtherName p.qregs p.cregs w.names) w.qubits) from_cregs
     in
     steps_join options header_shapes (include_shapes ++ (qregs ++ (cregs ++ (gates ++ tail)))) start begun (reading p) (header_steps options)
     (steps_join options include_shapes (qregs ++ (cregs ++ (gates ++ tail))) begun (reading start.program) (reading p) (include_steps options) from_qregs)
