@@ -1,5 +1,5 @@
 -- The argument of a wire or a bit, and that it is read as this one place.
-use Rattle.std.proofs.Common.{◌≡◌, ◌≢◌, ℕ, zero, suc, ◌+◌, ◌-◌, ◌<◌, ◌≤◌, ◌^◌, Bool, true, false, cond, nat_lt, List, [], ◌∷◌, ◌++◌, map, All, AllPairs, codes, decimal, bytes_eq, Option, Some, Result, Ok, refl, sym, ap, ◌∙◌, arith, rules, lt-ltb, inl, inr}
+use Rattle.std.proofs.Common.{◌≡◌, ◌≢◌, ℕ, zero, suc, ◌+◌, ◌-◌, ◌<◌, ◌≤◌, Bool, true, false, cond, nat_lt, List, [], ◌∷◌, ◌++◌, map, All, AllPairs, codes, decimal, bytes_eq, Option, Some, Result, Ok, refl, ap, ◌∙◌, arith, rules, lt-ltb, inl, inr}
 use Rattle.std.specs.List.{list_all}
 use Rattle.std.specs.Char.{is_ascii_digit}
 use Rattle.std.specs.Str.Parse.{digits_value}
@@ -116,7 +116,7 @@ numerals = numerals_by_value (λ ds. list_all is_ascii_digit ds ≡ true) (searc
 indexed_read : (regs : List RegisterView) (name digits : List ℕ) (span : Span) (a b c d : TokenView) (later : List TokenView) → is_name name ≡ true
     → span_from 0 regs name ≡ Some span → list_all is_ascii_digit digits ≡ true → nat_lt (digits_value 10 digits) span.size ≡ true
     → argument_at regs (token_at (shape Word name) a ∷ token_at (shape LeftBracket (codes "[")) b ∷ token_at (shape Number digits) c ∷ token_at (shape RightBracket (codes "]")) d ∷ later)
-      ≡ Ok (single span (token_at (shape Word name) a) (digits_value 10 digits), later)
+    ≡ Ok (single span (token_at (shape Word name) a) (digits_value 10 digits), later)
 unfolding argument_at indexed_at integer_at
 indexed_read regs name digits span a b c d later named found spelled inside = rw (named, found, spelled, inside) refl
 

@@ -1,5 +1,5 @@
 -- The line of a gate is read as this gate.
-use Rattle.std.proofs.Common.{◌≡◌, ◌≢◌, ℕ, suc, ◌+◌, ◌<◌, ◌≤◌, Bool, true, false, not, ◌&&◌, eqb, eqb-true, ltb-true, cond, nat_lt, List, [], ◌∷◌, ◌++◌, length, map, All, AllPairs, codes, Result, Ok, Err, refl, ap, ◌∙◌, sym, arith}
+use Rattle.std.proofs.Common.{◌≡◌, ◌≢◌, ℕ, suc, ◌+◌, ◌<◌, ◌≤◌, Bool, true, false, not, ◌&&◌, eqb, eqb-true, ltb-true, cond, nat_lt, List, [], ◌∷◌, ◌++◌, length, map, All, AllPairs, codes, Result, Ok, Err, refl, ap, ◌∙◌, arith}
 use Rattle.pq_lex.specs.declared.token.Form.TheVariants.{Word}
 use Rattle.pq_lex.specs.Token.{TokenView}
 use Rattle.pq_gate.specs.declared.gate.Gate.{Gate}
@@ -66,7 +66,7 @@ two_read word regs old new v w p q spots one apart made room =
       place_read regs w q (from_fifth spots) (token_at semicolon (spots 9) ∷ []),
       apart,
       made,
-      room
+      room,
     ) refl
 
 -- a statement whose first word is this one
@@ -87,7 +87,7 @@ gate_read : (options : Options) (E : Env) (word : List ℕ) (known : GateWord) (
     → gate_at known E.program.qregs E.program.gates ts ≡ Ok (gates, []) → after options E (token_at (shape Word word) t ∷ ts) ≡ Ok (with_gates E gates)
 gate_read options E word known t ts gates header included none first read =
     statement_read options E word (KnownGate known) t ts (with_gates E gates) header included first
-      (rw (gate_allowed options E.program.tail (token_at (shape Word word) t) none, read) refl)
+    (rw (gate_allowed options E.program.tail (token_at (shape Word word) t) none, read) refl)
 
 phase_known : (e : Eighths) → first_word true (phase_word e) ≡ KnownGate (words.Phase e)
 phase_known T = refl
@@ -109,7 +109,7 @@ one_wire options E g front word known w p header included none few first no_more
     let spots = λ (k : ℕ). nth front (suc k) in
     ap (after options E) (is_placed (shape Word word ∷ one_place p) front (shaped ∙ ap (λ ss. shape Word word ∷ ss ++ semicolon ∷ []) p.written))
     ∙ gate_read options E word known (nth front 0) (placed (one_place p) spots) (E.program.gates ++ g ∷ []) header included none first
-      (one_read known E.program.qregs E.program.gates (g ∷ []) w p spots no_more (made (spots 0)) (one_more E.program.gates few))
+    (one_read known E.program.qregs E.program.gates (g ∷ []) w p spots no_more (made (spots 0)) (one_more E.program.gates few))
 
 h_made : (regs : List RegisterView) (w : ℕ) (p : IsPlace 0 regs w) (t : TokenView) → gates_of words.H (argument_of p t ∷ []) ≡ H w ∷ []
 unfolding gates_of
@@ -140,7 +140,7 @@ two_wires options E front v w p q header included none few unlike shaped =
     untrue (eqb (q.span.first + q.index) (p.span.first + p.index)) (λ yes. unlike (let same : q.span.first + q.index ≡ p.span.first + p.index = eqb-true _ _ yes in omega (arith, p.reached, q.reached))) in
     ap (after options E) (is_placed (shape Word (codes "cx") ∷ two_places p q) front (shaped ∙ (λ i. shape Word (codes "cx") ∷ (p.written i ++ (comma ∷ q.written i)) ++ semicolon ∷ [])))
     ∙ gate_read options E (codes "cx") words.Cx (nth front 0) (placed (two_places p q) spots) (E.program.gates ++ Cx v w ∷ []) header included none refl
-      (two_read words.Cx E.program.qregs E.program.gates (Cx v w ∷ []) v w p q spots refl apart (cx_made E.program.qregs v w p q (spots 0) (spots 5)) (one_more E.program.gates few))
+    (two_read words.Cx E.program.qregs E.program.gates (Cx v w ∷ []) v w p q spots refl apart (cx_made E.program.qregs v w p q (spots 0) (spots 5)) (one_more E.program.gates few))
 
 -- After the line of a gate on the wires the gate is the last one.
 pub after_gate : (options : Options) (E : Env) (g : Gate) (front : List TokenView) → E.header ≡ true → E.included ≡ true → E.program.tail ≡ []
@@ -158,4 +158,4 @@ after_gate options E (Phase e w) front header included none each apart wires on 
     one_wire options E (Phase e w) front (phase_word e) (words.Phase e) w p header included none few (phase_known e) refl (phase_made e E.program.qregs w p) shaped
 after_gate options E (Cx v w) front header included none each apart wires on few shaped =
     two_wires options E front v w (place_from 0 E.program.qregs v each apart wires on.0) (place_from 0 E.program.qregs w each apart wires on.1)
-      header included none few on.2 shaped
+    header included none few on.2 shaped

@@ -1,19 +1,16 @@
 -- The line of an entry of the tail is read as this entry.
-use Rattle.std.proofs.Common.{◌≡◌, ◌≢◌, ℕ, zero, suc, ◌+◌, ◌<◌, ◌≤◌, Bool, true, false, ◌||◌, eqb, eqb-true, ltb-true, cond, nat_lt, List, [], ◌∷◌, ◌++◌, length, map, All, AllPairs, append_assoc, codes, Result, Ok, refl, sym, ap, subst, ◌∙◌, arith}
+use Rattle.std.proofs.Common.{◌≡◌, ◌≢◌, ℕ, suc, ◌+◌, ◌<◌, ◌≤◌, true, false, ◌||◌, eqb, eqb-true, ltb-true, cond, nat_lt, List, [], ◌∷◌, ◌++◌, length, map, All, AllPairs, append_assoc, codes, Ok, refl, sym, ap, subst, ◌∙◌, arith}
 use Rattle.std.specs.List.{list_any}
 use Rattle.std.proofs.lemmas.List.Elements.{All-head, All-tail}
 use Rattle.pq_lex.specs.declared.token.Form.TheVariants.{Word}
 use Rattle.pq_lex.specs.Token.{TokenView}
 use Rattle.pq_text.specs.Program.{RegisterView, TailView, Barrier, Measure, places_of, entries_of}
 use Rattle.pq_text.specs.WellFormed.{IsRegister, IsTailEntry}
-use Rattle.pq_read.specs.declared.refusal.Refusal.{Refusal}
 use Rattle.pq_read.specs.declared.program.Options.{Options}
-use Rattle.pq_read.specs.declared.word.FirstWord.{FirstWord}
 use Rattle.pq_read.specs.declared.word.FirstWord.TheVariants as firsts
-use Rattle.pq_read.specs.Faults.{◌>>=◌, Reading}
-use Rattle.pq_read.specs.Words.{first_word}
+use Rattle.pq_read.specs.Faults.{Reading}
 use Rattle.pq_read.specs.Environment.{Env}
-use Rattle.pq_read.specs.After.{adjoined, adjoined_below, barrier_wires, barrier_at, measure_at, put, statement_by, statement_at, piece_at, with_tail, after}
+use Rattle.pq_read.specs.After.{adjoined, adjoined_below, barrier_wires, barrier_at, measure_at, put, with_tail, after}
 use Rattle.pq_read.proofs.Counts.{entries_of-append}
 use Rattle.pq_read.proofs.Barriers.{barrier_more, barrier_done}
 use Rattle.pq_write.proofs.Shapes.{Shape, shape, shape_of, comma, semicolon, arrow, indexed_shapes, place_shapes, joined_shapes, tail_shapes}
@@ -74,7 +71,7 @@ one_more_wire : (regs : List RegisterView) (before : List ℕ) (w : ℕ) (p : Is
 one_more_wire regs before w p spots rest wires new later =
     let more : List TokenView = placed rest (from_fifth spots) in
     let step = barrier_more regs before (placed (indexed_shapes p.name p.index) spots ++ (token_at comma (spots 4) ∷ more))
-        (argument_of p (spots 0), token_at comma (spots 4) ∷ more) (token_at comma (spots 4), more) (place_read regs w p spots (token_at comma (spots 4) ∷ more)) refl refl in
+    (argument_of p (spots 0), token_at comma (spots 4) ∷ more) (token_at comma (spots 4), more) (place_read regs w p spots (token_at comma (spots 4) ∷ more)) refl refl in
     record { spot = later.spot; is = step.0 ∙ (ap (λ ws. barrier_wires regs ws 0 more) (joins regs before w p new) ∙ later.is) }
 
 wires_read : (regs : List RegisterView) (places : (w : ℕ) → w < places_of regs → IsPlace 0 regs w) (w : ℕ) (ws before : List ℕ) (spots : ℕ → TokenView)
@@ -83,13 +80,13 @@ wires_read : (regs : List RegisterView) (places : (w : ℕ) → w < places_of re
 wires_read regs places w [] before spots on differ =
     let p = places w (All-head (λ v. v < places_of regs) w [] on) in
     subst (λ (ss : List Shape). ReadsWires (barrier_wires regs before 0 (placed (ss ++ semicolon ∷ []) spots)) (before ++ w ∷ [])) (sym p.written)
-      (last_wire regs before w p spots differ.0)
+    (last_wire regs before w p spots differ.0)
 wires_read regs places w (v ∷ ws) before spots on differ =
     let p = places w (All-head (λ u. u < places_of regs) w (v ∷ ws) on) in
     let later : ReadsWires (barrier_wires regs (before ++ w ∷ []) 0 (placed (barrier_shapes regs (v ∷ ws)) (from_fifth spots))) ((before ++ w ∷ []) ++ v ∷ ws) =
     wires_read regs places v ws (before ++ w ∷ []) (from_fifth spots) (All-tail (λ u. u < places_of regs) w (v ∷ ws) on) differ.1 in
     subst (λ (ss : List Shape). ReadsWires (barrier_wires regs before 0 (placed ((ss ++ (comma ∷ joined_shapes (map (place_shapes regs) (v ∷ ws)))) ++ semicolon ∷ []) spots)) (before ++ w ∷ v ∷ ws)) (sym p.written)
-      (one_more_wire regs before w p spots (barrier_shapes regs (v ∷ ws)) (before ++ w ∷ v ∷ ws) differ.0 (rw append_assoc at later))
+    (one_more_wire regs before w p spots (barrier_shapes regs (v ∷ ws)) (before ++ w ∷ v ∷ ws) differ.0 (rw append_assoc at later))
 
 -- what follows the word of a barrier
 barrier_read : (regs : List RegisterView) (tail : List TailView) (wires : List ℕ) (ts : List TokenView) → ReadsWires (barrier_wires regs [] 0 ts) wires
@@ -109,7 +106,7 @@ measure_read qregs cregs tail wire bit p q spots room =
     rw (
       place_read qregs wire p spots (token_at arrow (spots 4) ∷ placed (indexed_shapes q.name q.index ++ semicolon ∷ []) (from_fifth spots)),
       place_read cregs bit q (from_fifth spots) (token_at semicolon (spots 9) ∷ []),
-      room
+      room,
     ) refl
 
 room_left : (tail : List TailView) (t : TailView) (more : ℕ) → entries_of (t ∷ []) ≡ more → entries_of (tail ++ t ∷ []) ≤ 1048576 → nat_lt 1048576 (entries_of tail + more) ≡ false
@@ -127,7 +124,7 @@ barrier_line options E (w ∷ ws) front header included places entry few shaped 
     let wires = wires_read E.program.qregs places w ws [] (λ k. nth front (suc k)) entry.in_range (differ_from [] (w ∷ ws) entry.distinct) in
     ap (after options E) (is_placed (shape Word (codes "barrier") ∷ barrier_shapes E.program.qregs (w ∷ ws)) front shaped)
     ∙ statement_read options E (codes "barrier") firsts.Barrier (nth front 0) ts (with_tail E (E.program.tail ++ Barrier (w ∷ ws) ∷ [])) header included refl
-      (ap (λ r. put r (with_tail E)) (barrier_read E.program.qregs E.program.tail (w ∷ ws) ts wires room))
+    (ap (λ r. put r (with_tail E)) (barrier_read E.program.qregs E.program.tail (w ∷ ws) ts wires room))
 
 measure_line : (options : Options) (E : Env) (wire bit : ℕ) (front : List TokenView) (p : IsPlace 0 E.program.qregs wire) (q : IsPlace 0 E.program.cregs bit)
     → E.header ≡ true → E.included ≡ true
@@ -139,10 +136,10 @@ measure_line options E wire bit front p q header included few shaped =
     let from : p.span.first + p.index + 0 ≡ wire = omega (arith, p.reached) in
     let into : q.span.first + q.index + 0 ≡ bit = omega (arith, q.reached) in
     ap (after options E) (is_placed (shape Word (codes "measure") ∷ measure_shapes p q) front
-        (shaped ∙ (λ i. shape Word (codes "measure") ∷ p.written i ++ (arrow ∷ (q.written i ++ semicolon ∷ [])))))
+    (shaped ∙ (λ i. shape Word (codes "measure") ∷ p.written i ++ (arrow ∷ (q.written i ++ semicolon ∷ [])))))
     ∙ statement_read options E (codes "measure") firsts.Measure (nth front 0) (placed (measure_shapes p q) spots) (with_tail E (E.program.tail ++ Measure wire bit ∷ [])) header included refl
-      (ap (λ r. put r (with_tail E)) (measure_read E.program.qregs E.program.cregs E.program.tail wire bit p q spots room
-          ∙ (λ i. let r : Reading (List TailView) = Ok (E.program.tail ++ Measure (from i) (into i) ∷ [], []) in r)))
+    (ap (λ r. put r (with_tail E)) (measure_read E.program.qregs E.program.cregs E.program.tail wire bit p q spots room
+    ∙ (λ i. let r : Reading (List TailView) = Ok (E.program.tail ++ Measure (from i) (into i) ∷ [], []) in r)))
 
 -- After the line of an entry of the tail the entry is the last one.
 pub after_tail : (options : Options) (E : Env) (t : TailView) (front : List TokenView) → E.header ≡ true → E.included ≡ true
@@ -156,4 +153,4 @@ after_tail options E (Barrier wires) front header included q_each c_each q_apart
     barrier_line options E wires front header included (λ w on. place_from 0 E.program.qregs w q_each q_apart qubits on) entry few shaped
 after_tail options E (Measure wire bit) front header included q_each c_each q_apart c_apart qubits bits entry few shaped =
     measure_line options E wire bit front (place_from 0 E.program.qregs wire q_each q_apart qubits entry.wire_in_range)
-      (place_from 0 E.program.cregs bit c_each c_apart bits entry.bit_in_range) header included few shaped
+    (place_from 0 E.program.cregs bit c_each c_apart bits entry.bit_in_range) header included few shaped
