@@ -1,2 +1,5 @@
 pub mod Shapes
 pub mod Steps
+pub mod Listing
+pub mod Bounds
+pub mod Texts
