@@ -21,8 +21,8 @@ use crate::token::{demand, is_next, refused};
 use crate::word::{FirstWord, GateWord, read_first_word};
 use pq_gate::{Gate, GateList};
 use pq_lex::{Form, Lexer, MAX_TEXT, Token};
-use pq_text::MAX_GATES;
 use pq_list::RoomList;
+use pq_text::MAX_GATES;
 use std::alloc::Global;
 
 /// What has been read of a text.

@@ -1,7 +1,7 @@
 -- The canonical text of a well-formed program is short.
-use Rattle.std.proofs.Common.{◌≡◌, ℕ, ◌+◌, ◌*◌, ◌<◌, ◌≤◌, ◌^◌, Bool, true, false, cond, ltb, ◌-◌, List, [], ◌∷◌, ◌++◌, length, map, flat_map, All, codes, decimal, refl, sym, ◌∙◌, ap, subst, arith}
+use Rattle.std.proofs.Common.{◌≡◌, ℕ, ◌+◌, ◌*◌, ◌<◌, ◌≤◌, ◌^◌, Bool, true, false, cond, ltb, ◌-◌, List, [], ◌∷◌, ◌++◌, length, map, flat_map, All, codes, decimal, refl, subst, arith}
 use Rattle.std.specs.List.{join_with_byte}
-use Rattle.std.proofs.lemmas.Bool.{ltb-true, ltb-false}
+use Rattle.std.proofs.lemmas.Bool.{ltb-true}
 use Rattle.std.proofs.lemmas.List.{length-append, take_at, drop_at}
 use Rattle.std.proofs.lemmas.List.Elements.{All-head, All-tail, All-take, All-drop}
 use Rattle.std.proofs.lemmas.Fmt.{length-decimal-le}
@@ -10,9 +10,8 @@ use Rattle.pq_gate.specs.declared.gate.Gate.{Gate}
 use Rattle.pq_gate.specs.declared.gate.Gate.TheVariants.{H, X, Phase, Cx}
 use Rattle.pq_gate.specs.declared.gate.Eighths.TheVariants.{T, S, Z, Sdg, Tdg}
 use Rattle.pq_text.specs.Program.{RegisterView, TailView, Barrier, Measure, ProgramView, places_of, entries_of}
-use Rattle.pq_text.specs.Print.{header, indexed, place, register_line, gate_line, gate_word, gate_arguments, tail_line, print}
+use Rattle.pq_text.specs.Print.{header, indexed, place, register_line, gate_line, tail_line, print}
 use Rattle.pq_text.specs.WellFormed.{IsRegister, IsTailEntry, WellFormed}
-use Rattle.pq_write.proofs.Listing.{joined}
 
 pub indexed_short : (name : List ℕ) (n : ℕ) → length name ≤ 64 → n < 2 ^ 32 → length (indexed name n) ≤ 110
 indexed_short name n short small =

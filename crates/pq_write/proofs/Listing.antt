@@ -1,7 +1,7 @@
 -- Lines one after another.
 use Rattle.std.proofs.Common.{◌≡◌, ℕ, ◌+◌, ◌<◌, ◌≤◌, List, [], ◌∷◌, ◌++◌, length, take, get_or, map, flat_map, refl, sym, ◌∙◌, ap, subst, append_assoc, arith}
 use Rattle.std.specs.List.{join_with_byte, All}
-use Rattle.std.proofs.lemmas.List.{append-nil, take_more, take_all, get_or-map, length-map, length-append}
+use Rattle.std.proofs.lemmas.List.{append-nil, take_more, get_or-map, length-map, length-append}
 use Rattle.std.proofs.lemmas.List.Concat.{flat_map-append}
 use Rattle.std.proofs.lemmas.List.Folds.{length-flat_map-take}
 use Rattle.std.proofs.lemmas.List.Elements.{All-get_or, All-from_recursion}

@@ -1,8 +1,8 @@
 -- The table of the texts of places.
-use Rattle.std.proofs.Common.{◌≡◌, ℕ, ◌+◌, ◌-◌, ◌*◌, ◌<◌, ◌≤◌, Bool, true, false, cond, ltb, List, [], ◌∷◌, ◌++◌, length, take, drop, get_or, map, flat_map, All, slice_range, refl, sym, ◌∙◌, ap, subst, inl, inr, arith}
-use Rattle.std.specs.List.{range_with_len, AllByRecursion}
+use Rattle.std.proofs.Common.{◌≡◌, ℕ, ◌+◌, ◌-◌, ◌<◌, ◌≤◌, cond, List, [], ◌∷◌, ◌++◌, length, take, drop, get_or, map, flat_map, All, slice_range, refl, sym, ◌∙◌, ap, subst, inl, inr, arith}
+use Rattle.std.specs.List.{AllByRecursion}
 use Rattle.std.proofs.lemmas.Bool.{lt-ltb, le-ltb, cases_lt}
-use Rattle.std.proofs.lemmas.List.{append-nil, length-append, length-map, length-drop, map-append, at_drop_more, take-append-le, drop-append-le, take_at, drop_at, take_all, get_or-map, get_or_append_left, get_or-append_right, length_push}
+use Rattle.std.proofs.lemmas.List.{length-append, length-map, length-drop, map-append, at_drop_more, take-append-le, drop-append-le, drop_at, take_all, get_or-map, get_or_append_left, get_or-append_right, length_push}
 use Rattle.std.proofs.lemmas.List.FromFn.{length-map-range_with_len, get_or-map-range_with_len}
 use Rattle.std.proofs.lemmas.List.Elements.{All-append, All-nil, All-cons, All-get_or, recursion_from_All, All-from_recursion}
 use Rattle.pq_text.specs.Program.{RegisterView, places_of}
@@ -10,7 +10,6 @@ use Rattle.pq_text.specs.Print.{indexed, place}
 use Rattle.pq_write.specs.declared.places.Extent.{Extent}
 use Rattle.pq_write.specs.declared.places.Table.{Table}
 use Rattle.pq_write.specs.Table.{IsWithin, cut, texts_of, IsLaid, texts_in, IsTableOf}
-use Rattle.pq_write.proofs.Listing.{lines_more}
 
 -- bytes at the end change no text
 cut_kept : (bytes more : List ℕ) (e : Extent) → IsWithin bytes e → cut (bytes ++ more) e ≡ cut bytes e

@@ -10,12 +10,7 @@ use std::alloc::AllocError;
 
 // Appends a word with the space after it, the wire, and the end of the line.
 #[inline(always)]
-fn push_one(
-    out: &mut Vec<u8>,
-    word: &[u8],
-    wires: &Places,
-    wire: u32,
-) -> Result<(), AllocError>
+fn push_one(out: &mut Vec<u8>, word: &[u8], wires: &Places, wire: u32) -> Result<(), AllocError>
     requires { wire < places_of wires.now }
     ensures { OnOk result
         (out.new.items ≡ out.old.items ++ (word.now ++ (place wires.now wire ++ codes ";\n"))) }
@@ -50,11 +45,7 @@ pub fn push_gate_line(out: &mut Vec<u8>, wires: &Places, gate: Gate) -> Result<(
 }
 
 /// Appends the lines of gates.
-pub fn push_gate_lines(
-    out: &mut Vec<u8>,
-    wires: &Places,
-    gates: &[Gate],
-) -> Result<(), AllocError>
+pub fn push_gate_lines(out: &mut Vec<u8>, wires: &Places, gates: &[Gate]) -> Result<(), AllocError>
     requires { IsCircuit (places_of wires.now) gates.now }
     ensures { OnOk result (out.new.items ≡ out.old.items ++ flat_map (gate_line wires.now) gates.now) }
 {

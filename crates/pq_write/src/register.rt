@@ -20,11 +20,7 @@ pub fn push_indexed(out: &mut Vec<u8>, name: &[u8], index: u32) -> Result<(), Al
 }
 
 // Appends the line that declares a register, with the word `qreg` or `creg` in front.
-fn push_register_line(
-    out: &mut Vec<u8>,
-    word: &[u8],
-    register: &Register,
-) -> Result<(), AllocError>
+fn push_register_line(out: &mut Vec<u8>, word: &[u8], register: &Register) -> Result<(), AllocError>
     ensures { OnOk result
         (out.new.items ≡ out.old.items ++ register_line word.now (register_view register.now)) }
 {

@@ -53,7 +53,9 @@ fn is_settled(alloc: Global, text: &[u8]) -> bool {
 // The same of a text that begins with the two first lines and goes on so.
 fn is_settled_after(alloc: Global, lines: &str) -> bool {
     let mut text = Vec::new(alloc);
-    if text.extend_from_slice(HEADER).is_err() || text.extend_from_slice(lines.as_bytes()).is_err() {
+    if text.extend_from_slice(HEADER).is_err()
+        || text.extend_from_slice(lines.as_bytes()).is_err()
+    {
         return false;
     }
     is_settled(alloc, text.as_slice())
@@ -94,7 +96,13 @@ fn each_kind_of_line_is_written_as_by_hand(rt: HostRuntime) {
 #[test]
 fn a_program_without_registers_has_two_lines(rt: HostRuntime) {
     let text = b"// nothing\nOPENQASM\t2.0;\r\ninclude\"qelib1.inc\";";
-    assert!(rt; is_written_as(rt.alloc(), text, b"OPENQASM 2.0;\ninclude \"qelib1.inc\";\n"));
+    assert!(rt;
+        is_written_as(
+            rt.alloc(),
+            text,
+            b"OPENQASM 2.0;\ninclude \"qelib1.inc\";\n"
+        )
+    );
 }
 
 #[test]
@@ -106,7 +114,7 @@ fn texts_of_users_are_written_the_same_once_written(rt: HostRuntime) {
         "qreg q[3];\ncreg c[3];\nccx q[0],q[1],q[2];\nmeasure q -> c;\n",
         "qreg q[2];\r\n\tswap q[0] , q[1] ;\r\n",
         "qreg r[4096];\nx r[4095];\ntdg r[000];\n",
-        "creg early[7];\nqreg q_1[1];\nqreg qQ[2];\ncz q_1,qQ;\ncy qQ[1],q_1[0];\ny qQ;\n",
+        "creg early[7];\nqreg q_1[1];\nqreg qQ[2];\ncz q_1[0],qQ;\ncy qQ[1],q_1[0];\ny qQ;\n",
         "qreg q[5];\nbarrier q[4],q,q[0];\nbarrier q[1];\n",
         "qreg q[2];\ncreg c[9];\nbarrier q;\nmeasure q[1] -> c[8];\nbarrier q[1],q[0];\n",
         "qreg q[1];s q[0];z q[0];sdg q[0];t q[0];// no line ends here",

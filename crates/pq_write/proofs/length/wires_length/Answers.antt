@@ -1,4 +1,4 @@
-use Rattle.std.proofs.Common.{◌≡◌, ◌+◌, ◌<◌, ◌^◌, ◌∷◌, length, flat_map, ap, arith}
+use Rattle.std.proofs.Common.{◌<◌, ◌^◌, ◌∷◌, length, flat_map, ap, arith}
 use Rattle.pq_text.specs.Print.{place}
 use Rattle.pq_write.proofs.Listing.{joined_length}
 use Rattle.pq_write.proofs.length.wires_length.Goals as goal

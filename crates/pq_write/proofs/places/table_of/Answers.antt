@@ -1,5 +1,4 @@
-use Rattle.std.proofs.Common.{◌++◌, length, map, sym, ap, ◌∙◌, arith}
-use Rattle.pq_text.specs.Program.{RegisterView}
+use Rattle.std.proofs.Common.{◌++◌, map, sym, ap, ◌∙◌, arith}
 use Rattle.pq_text.specs.WellFormed.{IsRegister}
 use Rattle.pq_read.specs.Environment.{register_view}
 use Rattle.pq_write.specs.Table.{texts_in}

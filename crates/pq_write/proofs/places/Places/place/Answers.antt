@@ -1,4 +1,4 @@
-use Rattle.std.proofs.Common.{◌≡◌, ◌<◌, ◌≤◌, length, map, slice_range, sym, ◌∙◌, ap, arith}
+use Rattle.std.proofs.Common.{◌<◌, length, map, slice_range, ◌∙◌, ap, arith}
 use Rattle.pq_text.specs.Program.{places_of}
 use Rattle.pq_text.specs.Print.{place}
 use Rattle.pq_read.specs.Environment.{register_view}

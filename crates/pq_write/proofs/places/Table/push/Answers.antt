@@ -1,9 +1,9 @@
-use Rattle.std.proofs.Common.{◌≡◌, ◌+◌, ◌≤◌, length, ◌++◌, ap, ◌∙◌, arith}
+use Rattle.std.proofs.Common.{◌≡◌, ◌+◌, length, ap, ◌∙◌, arith}
 use Rattle.std.proofs.lemmas.List.{length-append}
 use Rattle.pq_text.specs.Print.{indexed}
 use Rattle.pq_write.specs.declared.places.Extent.{Extent}
 use Rattle.pq_write.proofs.Bounds.{indexed_short}
-use Rattle.pq_write.proofs.Texts.{IsGrown, laid_more, texts_more}
+use Rattle.pq_write.proofs.Texts.{laid_more, texts_more}
 use Rattle.pq_write.proofs.places.Table.push.Goals as goal
 
 pub overflow_cast-end : goal.overflow_cast-end
