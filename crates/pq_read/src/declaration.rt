@@ -12,13 +12,11 @@ ghost use Rattle.pq_read.specs.Gives.{Gives, left, later};
 use crate::name::{Name, name_of};
 use crate::program::Register;
 use crate::refusal::{Kind, ReadError};
-use crate::registers::{MAX_PLACES, Registers, is_name};
+use crate::registers::{Registers, is_name};
 use crate::token::{GREAT, demand, demand_end, integer, refused};
 use pq_lex::{Form, Lexer, Token};
+use pq_text::{MAX_NAME, MAX_PLACES};
 use std::alloc::Global;
-
-/// The most bytes of a register's name.
-pub const MAX_NAME: usize = 64;
 
 // Whether a register of either kind has this name.
 fn has_register(quantum: &Registers, classical: &Registers, name: &[u8]) -> bool

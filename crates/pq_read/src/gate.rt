@@ -16,10 +16,8 @@ use crate::token::{demand, demand_end, refused};
 use crate::word::GateWord;
 use pq_gate::{Eighths, Gate};
 use pq_lex::{Form, Lexer};
+use pq_text::MAX_GATES;
 use std::alloc::AllocError;
-
-/// The most gates that a program has.
-pub const MAX_GATES: u32 = 1_048_576;
 
 /// The arguments of a gate.
 #[derive(Clone, Copy)]

@@ -10,7 +10,7 @@ ghost use Rattle.pq_read.specs.Reads.{is_done, read_tokens, Reads, IsRefusedFor}
 ghost use Rattle.pq_read.specs.Gives.{Gives, left, later};
 
 use crate::declaration::read_declaration;
-use crate::gate::{MAX_GATES, read_gate};
+use crate::gate::read_gate;
 use crate::header::{read_header, read_include};
 use crate::program::{Options, Program};
 use crate::refusal::{Kind, ReadError};
@@ -22,6 +22,7 @@ use crate::word::{FirstWord, GateWord, read_first_word};
 use pq_gate::{Gate, GateList};
 use pq_lex::{Form, Lexer, MAX_TEXT, Token};
 use pq_list::RoomList;
+use pq_text::MAX_GATES;
 use std::alloc::Global;
 
 /// What has been read of a text.

@@ -17,9 +17,6 @@ use pq_text::is_lawful_name;
 use std::alloc::{AllocError, Global};
 use std::marker::Model;
 
-/// The most places of one kind.
-pub const MAX_PLACES: u32 = 4096;
-
 /// Whether a word is a name.
 pub fn is_name(word: &[u8]) -> bool
     ensures { result ≡ is_name_of word.now }

@@ -10,11 +10,9 @@ use crate::refusal::{Kind, ReadError};
 use crate::token::refused;
 use pq_io::PlaceList;
 use pq_lex::Token;
+use pq_text::MAX_ENTRIES;
 use std::alloc::{AllocError, Global};
 use std::marker::Model;
-
-/// The most entries of a tail: the wires of its barriers and the measured bits.
-pub const MAX_ENTRIES: u32 = 1_048_576;
 
 /// The barriers and the measurements after the gates. Contracts see the list of them.
 #[derive(Drop)]

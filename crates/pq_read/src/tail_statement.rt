@@ -8,9 +8,10 @@ ghost use Rattle.pq_read.specs.Gives.{Gives, left, later};
 use crate::argument::{Argument, read_argument};
 use crate::refusal::{Kind, ReadError};
 use crate::registers::Registers;
-use crate::tail::{MAX_ENTRIES, Tail};
+use crate::tail::Tail;
 use crate::token::{demand, demand_end, is_next, refused};
 use pq_lex::{Form, Lexer};
+use pq_text::MAX_ENTRIES;
 use std::alloc::{AllocError, Global};
 
 // The bits of a measurement, which are as many as the qubits.

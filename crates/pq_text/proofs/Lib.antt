@@ -1,6 +1,1 @@
-pub mod Cuts
-pub mod Lines
 pub mod Names
-pub mod Numbers
-pub mod Places
-pub mod Thin

@@ -3,6 +3,3 @@ pub mod Name
 pub mod Program
 pub mod Print
 pub mod WellFormed
-pub mod Digits
-pub mod Words
-pub mod Thin

@@ -1,5 +1,5 @@
 -- Which programs there are.
-use Rattle.std.specs.Prelude.{◌≡◌, ◌≢◌, ℕ, ◌<◌, ◌≤◌, List, [], ◌++◌, length, All, AllPairs}
+use Rattle.std.specs.Prelude.{◌≢◌, ℕ, ◌<◌, ◌≤◌, List, ◌++◌, length, All, AllPairs}
 use Rattle.pq_gate.specs.Circuit.{IsCircuit}
 use Rattle.pq_text.specs.Name.{IsRegisterName}
 use Rattle.pq_text.specs.Program.{RegisterView, TailView, Barrier, Measure, ProgramView, places_of, entries_of}
@@ -35,10 +35,3 @@ pub record WellFormed (p : ProgramView) : Type 0 where
   pub gates : length p.gates ≤ 1048576
   pub tail : All (IsTailEntry (places_of p.qregs) (places_of p.cregs)) p.tail
   pub entries : entries_of p.tail ≤ 1048576
-
--- A thin program has exactly one quantum register, no classical one and an empty tail.
-pub record IsThin (p : ProgramView) : Type 0 where
-  pub well_formed : WellFormed p
-  pub one_register : length p.qregs ≡ 1
-  pub no_bits : p.cregs ≡ []
-  pub no_tail : p.tail ≡ []

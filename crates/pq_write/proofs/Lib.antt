@@ -8,3 +8,6 @@ pub mod TailLines
 pub mod Frame
 pub mod Lines
 pub mod ReadBack
+pub mod Listing
+pub mod Bounds
+pub mod Texts

@@ -2,6 +2,16 @@
 //! written.
 #![tactic(auto)]
 
+mod gate;
 mod laws;
+mod length;
+mod places;
+mod program;
+mod register;
+mod tail;
 
 pub use laws::texts_are_read_back;
+pub use program::write_program;
+
+#[cfg(test)]
+mod tests;
