@@ -1,5 +1,5 @@
--- The numbers of the refusals.
-use Rattle.std.specs.Prelude.{ℕ}
+-- The numbers and the names of the refusals.
+use Rattle.std.specs.Prelude.{ℕ, List, codes}
 use Rattle.pq_read.specs.declared.refusal.Kind.{Kind}
 use Rattle.pq_read.specs.declared.refusal.Kind.TheVariants.{NoHeader, BadToken, Syntax, UnknownGate, UnknownRegister, RepeatedName, IndexOutOfRange, SameQubit, SizeMismatch, Unsupported, GateAfterMeasure, BarrierInside, BadSize, TooManyQubits, TooManyGates, TooManyBits, TailTooLong, NameTooLong}
 
@@ -22,3 +22,23 @@ number_of TooManyGates = 15
 number_of TooManyBits = 16
 number_of TailTooLong = 17
 number_of NameTooLong = 18
+
+abbrev pub name_of : Kind → List ℕ
+name_of NoHeader = codes "NoHeader"
+name_of BadToken = codes "BadToken"
+name_of Syntax = codes "Syntax"
+name_of UnknownGate = codes "UnknownGate"
+name_of UnknownRegister = codes "UnknownRegister"
+name_of RepeatedName = codes "RepeatedName"
+name_of IndexOutOfRange = codes "IndexOutOfRange"
+name_of SameQubit = codes "SameQubit"
+name_of SizeMismatch = codes "SizeMismatch"
+name_of Unsupported = codes "Unsupported"
+name_of GateAfterMeasure = codes "GateAfterMeasure"
+name_of BarrierInside = codes "BarrierInside"
+name_of BadSize = codes "BadSize"
+name_of TooManyQubits = codes "TooManyQubits"
+name_of TooManyGates = codes "TooManyGates"
+name_of TooManyBits = codes "TooManyBits"
+name_of TailTooLong = codes "TailTooLong"
+name_of NameTooLong = codes "NameTooLong"

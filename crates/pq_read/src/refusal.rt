@@ -1,5 +1,5 @@
 ghost use Rattle.std.specs.Prelude.{◌≡◌};
-ghost use Rattle.pq_read.specs.Kinds.{number_of};
+ghost use Rattle.pq_read.specs.Kinds.{number_of, name_of};
 ghost use Rattle.pq_read.specs.declared.refusal.ReadError.TheVariants.{OutOfMemory};
 
 use std::alloc::{AllocError, AllocFailed};
@@ -58,6 +58,32 @@ impl Kind {
         ensures { result ≡ number_of self }
     {
         self as u8
+    }
+
+    /// Its name, as it stands in this list.
+    pub fn name(self) -> &'static str
+        ensures { result.now ≡ name_of self }
+    {
+        match self {
+            Kind::NoHeader => "NoHeader",
+            Kind::BadToken => "BadToken",
+            Kind::Syntax => "Syntax",
+            Kind::UnknownGate => "UnknownGate",
+            Kind::UnknownRegister => "UnknownRegister",
+            Kind::RepeatedName => "RepeatedName",
+            Kind::IndexOutOfRange => "IndexOutOfRange",
+            Kind::SameQubit => "SameQubit",
+            Kind::SizeMismatch => "SizeMismatch",
+            Kind::Unsupported => "Unsupported",
+            Kind::GateAfterMeasure => "GateAfterMeasure",
+            Kind::BarrierInside => "BarrierInside",
+            Kind::BadSize => "BadSize",
+            Kind::TooManyQubits => "TooManyQubits",
+            Kind::TooManyGates => "TooManyGates",
+            Kind::TooManyBits => "TooManyBits",
+            Kind::TailTooLong => "TailTooLong",
+            Kind::NameTooLong => "NameTooLong",
+        }
     }
 }
 

@@ -1,4 +1,3 @@
 mod Noting
 mod Optimising
-mod Refusing
 mod Statuses

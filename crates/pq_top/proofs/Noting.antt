@@ -1,5 +1,5 @@
 -- Notes that are put piece by piece.
-use Rattle.std.proofs.Common.{◌≡◌, ℕ, suc, ◌+◌, ◌<◌, ◌≤◌, List, ◌++◌, length, take, drop, get_or, Option, inl, inr, sym, ap, ◌∙◌, subst, arith, add-one, drop-cons}
+use Rattle.std.proofs.Common.{◌≡◌, ℕ, suc, ◌+◌, ◌<◌, ◌≤◌, List, ◌++◌, length, take, drop, get_or, Option, inl, inr, sym, ap, ◌∙◌, subst, arith, add-one, drop-cons, codes, decimal}
 use Rattle.std.specs.List.{flat_map}
 use Rattle.std.specs.Io.KnownBytes.{Appends}
 use Rattle.std.proofs.KnownBytes.{Appends-trans}
@@ -9,7 +9,10 @@ use Rattle.std.proofs.lemmas.List.{take-append-le, take-append-drop}
 use Rattle.std.proofs.lemmas.List.Concat.{flat_map-cons}
 use Rattle.pq_io.specs.Faults.{Rose}
 use Rattle.pq_io.specs.Whole.{WritesUpToFault}
-use Rattle.pq_top.specs.Device.{Noted}
+use Rattle.pq_read.specs.Kinds.{number_of, name_of}
+use Rattle.pq_read.specs.declared.refusal.Refusal.{Refusal as Fault}
+use Rattle.pq_top.specs.Device.{Moved, Noted}
+use Rattle.pq_top.specs.Notes.{fault_line}
 
 -- the pieces before one, that one, and those after it
 pub around : {X : Type 0} (f : X → List ℕ) (xs : List X) (i : ℕ) (d : X) → i < length xs
@@ -45,3 +48,11 @@ noted_all before after was now line put = record {
   front = subst (Appends before after) (sym (take-length line)) put;
   whole = λ calm. take-length line;
 }
+
+-- the pieces of the line of a fault, with its number and its name as they were had
+pub fault_noted : (device : Moved) (fault : Fault) (number : ℕ) (name : List ℕ) → number ≡ number_of fault.kind → name ≡ name_of fault.kind
+    → Noted device (codes "popqc: refused " ++ (decimal number ++ (codes " " ++ (name ++ (codes " at " ++ (decimal fault.line ++ (codes ":" ++ (decimal fault.column ++ codes "\n")))))))) → Noted device (fault_line fault)
+unfolding fault_line
+fault_noted device fault number name e f noted =
+    subst (λ n. Noted device (codes "popqc: refused " ++ (decimal n ++ (codes " " ++ (name_of fault.kind ++ (codes " at " ++ (decimal fault.line ++ (codes ":" ++ (decimal fault.column ++ codes "\n"))))))))) e
+    (subst (λ l. Noted device (codes "popqc: refused " ++ (decimal number ++ (codes " " ++ (l ++ (codes " at " ++ (decimal fault.line ++ (codes ":" ++ (decimal fault.column ++ codes "\n"))))))))) f noted)

@@ -2,12 +2,13 @@
 use Rattle.std.specs.Prelude.{◌≡◌, ℕ, ◌+◌, ◌⊎◌, List, Err}
 use Rattle.std.specs.Io.KnownBytes.{Appends}
 use Rattle.pq_io.specs.Whole.{ReadsToEnd, ReadsUpToFault, WritesUpToFault, TakesFirst}
+use Rattle.pq_read.specs.Reads.{Refused}
 use Rattle.pq_top.specs.declared.words.UsageFault.{UsageFault}
 use Rattle.pq_top.specs.declared.answer.Refusal.{Refusal}
-use Rattle.pq_top.specs.declared.answer.Refusal.TheVariants.{Form, TooLong}
+use Rattle.pq_top.specs.declared.answer.Refusal.TheVariants.{Text, TooLong}
 use Rattle.pq_top.specs.Device.{Moved, Noted}
 use Rattle.pq_top.specs.Request.{Asks, AreGood}
-use Rattle.pq_top.specs.Optimised.{IsThinText, IsOptimised, input_limit}
+use Rattle.pq_top.specs.Optimised.{options, IsOptimised, input_limit}
 use Rattle.pq_top.specs.Notes.{usage_line, refusal_line, read_fault_line, write_fault_line}
 
 -- The words are good, and the source was read to its end and gave this text, which is accepted; the output
@@ -30,10 +31,10 @@ pub record IsUsage (words : List (List ℕ)) (notes : Moved) : Type 0 where
   pub asks : Asks words (Err fault)
   pub noted : Noted notes (usage_line fault)
 
--- The source gave more bytes than the limit; or it was read to its end, and its text isn't canonical.
+-- The source gave more bytes than the limit; or it was read to its end, and this is the first fault of its text.
 abbrev pub Refuses : Moved → Refusal → Type 0
 Refuses input TooLong = TakesFirst input.before input.after (input_limit + 1)
-Refuses input Form = (text : List ℕ) × ReadsToEnd input.before input.after input_limit text × ¬ IsThinText text
+Refuses input (Text fault) = (text : List ℕ) × ReadsToEnd input.before input.after input_limit text × Refused text options fault.kind fault.line fault.column
 
 -- The words are good, the source is refused, and the note says why.
 pub record IsRefused (words : List (List ℕ)) (input notes : Moved) : Type 0 where

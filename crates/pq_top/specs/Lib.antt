@@ -6,6 +6,8 @@ pub use Rattle.pq_io.specs.Whole
 pub use Rattle.pq_text.specs.Program
 pub use Rattle.pq_text.specs.WellFormed
 pub use Rattle.pq_text.specs.Print
+pub use Rattle.pq_read.specs.Kinds
+pub use Rattle.pq_read.specs.Reads
 pub use Rattle.pq_oracle.specs.Cancelled
 pub mod Device
 pub mod Request

@@ -4,9 +4,9 @@ ghost use Rattle.pq_top.specs.Device.{moved};
 ghost use Rattle.pq_top.specs.Work.{Means, LeavesSource, LeavesSink};
 
 use crate::optimise::optimised;
-use crate::thin::TextFault;
 use crate::words::{UsageFault, request};
 use pq_io::{ReadWhole, Sink, Source, read_whole, write_whole};
+use pq_read::ReadError;
 use std::alloc::Global;
 
 /// The most bytes of a text.
@@ -15,8 +15,8 @@ pub const MAX_INPUT: u64 = 67_108_864;
 /// Why a text is refused.
 #[derive(Clone, Copy, Debug, PartialEq, Eq)]
 pub enum Refusal {
-    /// It isn't the canonical text of a program that is accepted.
-    Form,
+    /// It stands for no program; this is its first fault.
+    Text(pq_read::Refusal),
     /// It has more than 67,108,864 bytes.
     TooLong,
 }
@@ -48,13 +48,13 @@ pub fn work<S: Source, K: Sink>(
         return Answer::Usage(fault);
     }
     match read_whole(alloc, source, MAX_INPUT) {
-        ReadWhole::Bytes(text) => match optimised(alloc, text.as_slice()) {
+        ReadWhole::Bytes(text) => match optimised(alloc, text) {
             Ok(output) => match write_whole(sink, output.as_slice()) {
                 Ok(()) => Answer::Done,
                 Err(fault) => Answer::WriteFault { sent: fault.sent },
             },
-            Err(TextFault::Form) => Answer::Refused(Refusal::Form),
-            Err(TextFault::OutOfMemory) => Answer::OutOfMemory,
+            Err(ReadError::Refused(fault)) => Answer::Refused(Refusal::Text(fault)),
+            Err(ReadError::OutOfMemory) => Answer::OutOfMemory,
         },
         ReadWhole::Failed { taken } => Answer::ReadFault { taken },
         ReadWhole::TooLong => Answer::Refused(Refusal::TooLong),

@@ -15,7 +15,6 @@ mod notes;
 mod optimise;
 #[cfg(test)]
 mod tests;
-mod thin;
 mod words;
 
 use crate::answer::{Answer, work};
@@ -29,9 +28,9 @@ pub use words::UsageFault;
 /// of a circuit, writes the text of the optimised circuit, and answers the status to end with.
 ///
 /// `words` is one word, the window length Omega from 2 to 1,024. `source` gives the text, at most
-/// 67,108,864 bytes: the canonical text of a program with one quantum register, no classical one and
-/// no tail. `sink` takes the text of the same program with neighbouring equal pairs of H, X and CX
-/// taken out. `notes` takes one line where the status isn't 0.
+/// 67,108,864 bytes, which is read with barriers kept. `sink` takes the canonical text of the same
+/// program with neighbouring equal pairs of H, X and CX taken out. `notes` takes one line where the
+/// status isn't 0.
 ///
 /// The status is 0 where the work was done, 2 where the words have a fault, 3 where the text is
 /// refused, 4 where the source failed, 5 where the sink failed, and 6 where memory ran out.

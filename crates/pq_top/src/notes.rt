@@ -1,12 +1,20 @@
-ghost use Rattle.std.specs.Prelude.{◌≡◌, flat_map};
+ghost use Rattle.std.specs.Prelude.{◌≡◌, ◌≤◌, flat_map};
+ghost use Rattle.pq_io.specs.Whole.{WritesWhole};
 ghost use Rattle.pq_top.specs.Device.{moved, Noted};
-ghost use Rattle.pq_top.specs.Notes.{usage_line, refusal_line};
+ghost use Rattle.pq_top.specs.Notes.{piece_text, usage_line, refusal_line, fault_line};
 ghost use Rattle.pq_top.specs.Work.{note_line};
 
 use crate::answer::{Answer, Refusal};
 use crate::words::UsageFault;
 use itoa::Buffer;
-use pq_io::{Sink, write_whole};
+use pq_io::{Sink, WriteFault, write_whole};
+
+/// A piece of a line: a text, or a number in decimal.
+#[derive(Clone, Copy)]
+pub enum Piece<'t> {
+    Text(&'t [u8]),
+    Number(u64),
+}
 
 /// Puts the line of an answer into the notes; nothing where the work was done. A failing sink of notes
 /// changes nothing else.
@@ -15,32 +23,85 @@ pub fn note<N: Sink>(notes: &mut N, answer: Answer)
     ensures noted { Noted (moved N.held N.faults notes.old notes.new) (note_line answer) }
     ensures quiet { answer ≡ Answer.Done → notes.new ≡ notes.old }
 {
-    let mut buffer = Buffer::new();
     match answer {
         Answer::Done => {}
-        Answer::Usage(fault) => put(notes, &[usage_text(fault)]),
-        Answer::Refused(refusal) => put(notes, &[refusal_text(refusal)]),
-        Answer::ReadFault { taken } => {
-            let count = buffer.format(taken).as_bytes();
-            put(notes, &[b"popqc: read fault after ", count, b" bytes\n"]);
-        }
-        Answer::WriteFault { sent } => {
-            let count = buffer.format(sent).as_bytes();
-            put(notes, &[b"popqc: write fault after ", count, b" bytes\n"]);
-        }
-        Answer::OutOfMemory => put(notes, &[b"popqc: out of memory\n"]),
+        Answer::Usage(fault) => put(notes, &[Piece::Text(usage_text(fault))]),
+        Answer::Refused(refusal) => note_refusal(notes, refusal),
+        Answer::ReadFault { taken } => put(
+            notes,
+            &[
+                Piece::Text(b"popqc: read fault after "),
+                Piece::Number(taken),
+                Piece::Text(b" bytes\n"),
+            ],
+        ),
+        Answer::WriteFault { sent } => put(
+            notes,
+            &[
+                Piece::Text(b"popqc: write fault after "),
+                Piece::Number(sent),
+                Piece::Text(b" bytes\n"),
+            ],
+        ),
+        Answer::OutOfMemory => put(notes, &[Piece::Text(b"popqc: out of memory\n")]),
     }
 }
 
+#[tactic(auto, unfolding(crate::specs::Notes::refusal_line))]
+fn note_refusal<N: Sink>(notes: &mut N, refusal: Refusal)
+    ensures { Noted (moved N.held N.faults notes.old notes.new) (refusal_line refusal) }
+{
+    match refusal {
+        Refusal::Text(fault) => note_fault(notes, fault),
+        Refusal::TooLong => {
+            put(
+                notes,
+                &[Piece::Text(b"popqc: refused: more than 67108864 bytes\n")],
+            );
+        },
+    }
+}
+
+// The number and the name of a fault, and where it stands.
+#[tactic(auto, using(crate::proofs::Noting::fault_noted))]
+fn note_fault<N: Sink>(notes: &mut N, fault: pq_read::Refusal)
+    ensures { Noted (moved N.held N.faults notes.old notes.new) (fault_line fault) }
+{
+    put(
+        notes,
+        &[
+            Piece::Text(b"popqc: refused "),
+            Piece::Number(fault.kind.number() as u64),
+            Piece::Text(b" "),
+            Piece::Text(fault.kind.name().as_bytes()),
+            Piece::Text(b" at "),
+            Piece::Number(fault.line as u64),
+            Piece::Text(b":"),
+            Piece::Number(fault.column as u64),
+            Piece::Text(b"\n"),
+        ],
+    );
+}
+
 // Puts the pieces one after another, up to the first that fails.
-fn put<N: Sink>(notes: &mut N, pieces: &[&[u8]])
-    ensures { Noted (moved N.held N.faults notes.old notes.new) (flat_map (λ piece. piece.now) pieces.now) }
+fn put<N: Sink>(notes: &mut N, pieces: &[Piece])
+    ensures { Noted (moved N.held N.faults notes.old notes.new) (flat_map piece_text pieces.now) }
 {
     for piece in pieces {
-        match write_whole(notes, piece) {
+        match put_piece(notes, piece) {
             Ok(()) => {}
             Err(_) => return,
         }
+    }
+}
+
+fn put_piece<N: Sink>(notes: &mut N, piece: &Piece) -> Result<(), WriteFault>
+    ensures answer { WritesWhole (N.held notes.old) (N.held notes.new) (N.faults notes.old) (N.faults notes.new) (piece_text piece.now) result }
+    ensures never_falls { N.faults notes.old ≤ N.faults notes.new }
+{
+    match piece {
+        Piece::Text(text) => write_whole(notes, text),
+        Piece::Number(number) => write_whole(notes, Buffer::new().format(*number).as_bytes()),
     }
 }
 
@@ -52,15 +113,5 @@ fn usage_text(fault: UsageFault) -> &'static [u8]
         UsageFault::Words => b"popqc: usage: words\n",
         UsageFault::NumberOmega => b"popqc: usage: number omega\n",
         UsageFault::RangeOmega => b"popqc: usage: range omega\n",
-    }
-}
-
-#[tactic(auto, unfolding(crate::specs::Notes::refusal_line))]
-fn refusal_text(refusal: Refusal) -> &'static [u8]
-    ensures { result.now ≡ refusal_line refusal }
-{
-    match refusal {
-        Refusal::Form => b"popqc: refused: form\n",
-        Refusal::TooLong => b"popqc: refused: more than 67108864 bytes\n",
     }
 }

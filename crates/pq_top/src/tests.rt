@@ -20,6 +20,15 @@ const MIXED: &str =
 const MIXED_LEFT: &str =
     "OPENQASM 2.0;\ninclude \"qelib1.inc\";\nqreg q[12];\nt q[0];\nsdg q[3];\n";
 
+const BY_HAND: &str =
+    "OPENQASM 2.0;\ninclude \"qelib1.inc\";\nqreg q[3];\ncreg c[3];\nh q[0];\ncx q[0],q[1];\n\
+    t q[1];\ntdg q[1];\ncx q[0],q[1];\nh q;\nbarrier q;\nmeasure q -> c;\n";
+
+const BY_HAND_OUTPUT: &str =
+    "OPENQASM 2.0;\ninclude \"qelib1.inc\";\nqreg q[3];\ncreg c[3];\nh q[0];\n\
+    cx q[0],q[1];\nt q[1];\ntdg q[1];\ncx q[0],q[1];\nh q[0];\nh q[1];\nh q[2];\n\
+    barrier q[0],q[1],q[2];\nmeasure q[0] -> c[0];\nmeasure q[1] -> c[1];\nmeasure q[2] -> c[2];\n";
+
 // A device: how many bytes a call moves at most, and which call fails.
 #[derive(Clone, Copy)]
 struct Device {
@@ -151,34 +160,54 @@ fn faulty_words_are_named(rt: HostRuntime) -> Result<(), Fail> {
 
 fn refuses(
     rt: &(impl Abort + AllocGlobal + Threads + Sync),
-    lines: &str,
+    text: &str,
+    note: &str,
 ) -> Result<(), AllocError> {
-    let alloc = rt.alloc();
-    let mut text = String::from_str(alloc, "OPENQASM 2.0;\ninclude \"qelib1.inc\";\n")?;
-    text.push_str(lines)?;
-    let outcome = run(rt, &["2"], text.as_str(), WHOLE, WHOLE)?;
-    expect(rt, &outcome, 3, "", "popqc: refused: form\n");
+    let outcome = run(rt, &["2"], text, WHOLE, WHOLE)?;
+    expect(rt, &outcome, 3, "", note);
+    Ok(())
+}
+
+fn refuses_line(
+    rt: &(impl Abort + AllocGlobal + Threads + Sync),
+    line: &str,
+    note: &str,
+) -> Result<(), AllocError> {
+    let mut text = String::from_str(
+        rt.alloc(),
+        "OPENQASM 2.0;\ninclude \"qelib1.inc\";\nqreg q[2];\n",
+    )?;
+    text.push_str(line)?;
+    refuses(rt, text.as_str(), note)
+}
+
+#[test]
+fn refusals_have_their_number_their_name_and_their_place(rt: HostRuntime) -> Result<(), Fail> {
+    for (line, note) in [
+        ("cx q[0],q[0];\n", "popqc: refused 8 SameQubit at 4:9\n"),
+        ("h q[5];\n", "popqc: refused 7 IndexOutOfRange at 4:5\n"),
+        ("rx(0.3) q[0];\n", "popqc: refused 10 Unsupported at 4:1\n"),
+        ("h r[0];\n", "popqc: refused 5 UnknownRegister at 4:3\n"),
+        ("foo q[0];\n", "popqc: refused 4 UnknownGate at 4:1\n"),
+        ("h q[0]", "popqc: refused 3 Syntax at 4:7\n"),
+        (
+            "creg c[2];\nmeasure q -> c;\nh q[0];\n",
+            "popqc: refused 11 GateAfterMeasure at 6:1\n",
+        ),
+        (
+            "h q[0];\nbarrier q;\nh q[0];\n",
+            "popqc: refused 12 BarrierInside at 6:1\n",
+        ),
+    ] {
+        refuses_line(&rt, line, note)?;
+    }
+    refuses(&rt, "", "popqc: refused 1 NoHeader at 1:1\n")?;
     Ok(())
 }
 
 #[test]
-fn texts_that_are_almost_canonical_are_refused(rt: HostRuntime) -> Result<(), Fail> {
-    for lines in [
-        "qreg q[1];\nh  q[0];\n",
-        "qreg q[1];\nh q[0];",
-        "qreg q[1];\r\nh q[0];\n",
-        "qreg q[01];\nh q[0];\n",
-        "qreg q[1];\nh q[1];\n",
-        "qreg q[2];\ncx q[1],q[1];\n",
-        "qreg q[4097];\n",
-        "qreg q[0];\n",
-        "qreg aaaaaaaaaaaaaaaaaaaaaaaaaaaaaaaaaaaaaaaaaaaaaaaaaaaaaaaaaaaaaaaaa[1];\n",
-        "qreg Q[1];\n",
-        "qreg gate[1];\n",
-        "",
-    ] {
-        refuses(&rt, lines)?;
-    }
+fn a_text_written_by_hand_has_its_tail_in_canonical_form(rt: HostRuntime) -> Result<(), Fail> {
+    accepts(&rt, 100, BY_HAND, BY_HAND_OUTPUT)?;
     Ok(())
 }
 
