@@ -1,4 +1,9 @@
 pub use Rattle.pq_gate.specs.Circuit
 pub use Rattle.pq_gate.specs.Matrix
+pub use Rattle.pq_match.specs.Row
+pub use Rattle.pq_match.specs.Redex
+pub use Rattle.pq_match.specs.First
+pub use Rattle.pq_match.specs.Rewrite
 pub use Rattle.pq_list.specs.Roomed
 pub mod Cancelled
+pub mod Ora

@@ -7,6 +7,9 @@ ghost use Rattle.pq_gate.specs.Circuit.{IsCircuit};
 ghost use Rattle.pq_gate.specs.Matrix.{Same};
 ghost use Rattle.pq_oracle.specs.Cancelled.{Cancelled, GoesInPairs, HasNoPair};
 
+mod laws;
+
+pub use laws::{oracle_has_one_answer, oracle_keeps_the_matrix};
 use pq_gate::{Gate, GateList};
 use std::alloc::{AllocError, Global};
 

@@ -1,0 +1,10 @@
+pub use Rattle.pq_gate.specs.Circuit
+pub use Rattle.pq_gate.specs.Matrix
+pub use Rattle.pq_gate.specs.Commuting
+pub use Rattle.pq_rules.specs.Row
+pub use Rattle.pq_rules.specs.Kinds
+pub use Rattle.pq_rules.specs.Renaming
+pub mod Redex
+pub mod First
+pub mod Rewrite
+pub mod Found

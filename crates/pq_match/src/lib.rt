@@ -1,0 +1,9 @@
+//! The first redex of a list of gates, and rewriting it.
+#![tactic(auto)]
+
+pub mod laws;
+mod redex;
+mod segment;
+
+pub use redex::Redex;
+pub use segment::{MAX_ROOM, Seg};

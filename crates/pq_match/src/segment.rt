@@ -1,0 +1,73 @@
+ghost use Rattle.std.specs.Prelude.{◌≡◌, ◌<◌, ◌≤◌, [], ◌∷◌, ◌++◌, length, IfOk};
+
+use pq_gate::Gate;
+use std::alloc::{AllocError, Global};
+use std::marker::Model;
+
+/// The most gates that a segment has room for.
+pub const MAX_ROOM: u32 = 2048;
+
+/// A segment of a circuit that is being rewritten: a list of gates, and the room that was asked for.
+/// Contracts see both, as `items` and `room`. The room is taken once, and nothing that is done with the
+/// segment takes memory.
+#[derive(Drop)]
+pub struct Seg {
+    gates: Vec<Gate>,
+    asked: u32,
+}
+
+impl Model for Seg {
+    ghost use Rattle.std.specs.Prelude.{◌≤◌, vec_len, vec_capacity};
+    ghost use Rattle.pq_rules.specs.Roomed.{Roomed};
+    ghost use Rattle.pq_gate.specs.declared.gate.Gate.{Gate};
+
+    ghost Value = { Roomed Gate };
+
+    ghost view = { λ a. record { items = a.gates.items; room = a.asked } };
+
+    ghost invariant = { λ a. (vec_len a.gates ≤ a.asked) × (a.asked ≤ vec_capacity a.gates) × (a.asked ≤ 2048) };
+}
+
+impl Seg {
+    /// An empty segment with room for `room` gates, at most 2,048. The room is taken here, once.
+    pub fn reserve(alloc: Global, room: u32) -> Result<Seg, AllocError>
+        requires { room ≤ MAX_ROOM }
+        ensures items { IfOk result (λ made. made.items ≡ []) }
+        ensures room { IfOk result (λ made. made.room ≡ room) }
+    {
+        let gates = Vec::with_capacity(alloc, room as usize)?;
+        Ok(Seg { gates, asked: room })
+    }
+
+    /// The room that was asked for.
+    pub fn room(&self) -> u32
+        ensures { result ≡ self.now.room }
+    {
+        self.asked
+    }
+
+    /// Leaves no gate.
+    pub fn clear(&mut self)
+        ensures items { self.new.items ≡ [] }
+        ensures room { self.new.room ≡ self.old.room }
+    {
+        self.gates.clear();
+    }
+
+    /// Appends a gate.
+    pub fn push(&mut self, gate: Gate)
+        requires { length self.old.items < self.old.room }
+        ensures items { self.new.items ≡ self.old.items ++ gate ∷ [] }
+        ensures room { self.new.room ≡ self.old.room }
+    {
+        self.gates.push_reserved(gate);
+    }
+
+    /// The gates, in circuit order.
+    pub fn gates(&self) -> &[Gate]
+        ensures gates { result.now ≡ self.now.items }
+        ensures few { length result.now ≤ MAX_ROOM }
+    {
+        self.gates.as_slice()
+    }
+}
