@@ -2,3 +2,4 @@ pub mod ArisesLaws
 pub mod Meaning
 pub mod OneMore
 pub mod Reduced
+pub mod Improving

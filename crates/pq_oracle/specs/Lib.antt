@@ -7,3 +7,4 @@ pub use Rattle.pq_match.specs.Rewrite
 pub use Rattle.pq_list.specs.Roomed
 pub mod Cancelled
 pub mod Ora
+pub mod Outcomes

@@ -4,7 +4,7 @@ use Rattle.pq_gate.specs.declared.gate.Gate.TheVariants.{H}
 use Rattle.pq_oracle.specs.Cancelled.{Arises}
 use Rattle.pq_oracle.proofs.Meaning.{Same-Arises}
 use Rattle.pq_oracle.proofs.OneMore.{Cancelled-nil, Cancelled-push}
-use Rattle.pq_oracle.proofs.cancel_pairs.Goals as goal
+use Rattle.pq_oracle.proofs.pairs.cancel_pairs.Goals as goal
 
 pub loop-gate-init : goal.loop-gate-init
 loop-gate-init c =

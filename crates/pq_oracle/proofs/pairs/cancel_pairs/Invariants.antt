@@ -1,6 +1,6 @@
 use Rattle.std.proofs.Common.{◌≡◌, ◌≤◌, length, take, vec_len, vec_capacity}
 use Rattle.pq_oracle.specs.Cancelled.{Cancelled}
-use Rattle.pq_oracle.proofs.cancel_pairs.Given as goal
+use Rattle.pq_oracle.proofs.pairs.cancel_pairs.Given as goal
 
 -- what is kept is what is left of the gates so far, and there is room for all
 abbrev pub invariant-loop-gate : goal.invariant-loop-gate

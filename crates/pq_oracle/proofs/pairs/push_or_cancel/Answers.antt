@@ -1,7 +1,7 @@
 use Rattle.std.proofs.Common.{refl}
 use Rattle.pq_oracle.proofs.OneMore.{taken_out_with_last, stays_behind_last, stays_alone}
-use Rattle.pq_oracle.proofs.push_or_cancel.Goals as goal
-use Rattle.pq_oracle.proofs.push_or_cancel.Goals.{in_default-via-in-Some+else-is_pair, in_default-via-in_default}
+use Rattle.pq_oracle.proofs.pairs.push_or_cancel.Goals as goal
+use Rattle.pq_oracle.proofs.pairs.push_or_cancel.Goals.{in_default-via-in-Some+else-is_pair, in_default-via-in_default}
 
 pub returns-in-Some-clause-cancelled : goal.returns-in-Some-clause-cancelled
 returns-in-Some-clause-cancelled c =

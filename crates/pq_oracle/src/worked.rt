@@ -1,0 +1,90 @@
+ghost use Rattle.std.specs.Prelude.{◌≡◌};
+ghost use Rattle.pq_oracle.specs.Outcomes.{WorkedView};
+
+use crate::improve::{Outcome, improve};
+use pq_gate::{Gate, GateList};
+use pq_list::RoomList;
+use pq_match::Seg;
+use pq_rules::Rules;
+use std::marker::Model;
+
+/// A segment that was worked: its ticket, the gates that went in, and the oracle's answer to them under the
+/// rules. That the answer is the oracle's is kept by the type.
+#[derive(Drop)]
+pub struct Worked<'r> {
+    ticket: u64,
+    input: GateList,
+    seg: Seg,
+    outcome: Outcome,
+    rules: &'r Rules,
+}
+
+impl<'r> Model for Worked<'r> {
+    ghost use Rattle.pq_oracle.specs.Outcomes.{WorkedView, answer_of};
+    ghost use Rattle.pq_oracle.specs.Ora.{Ora};
+
+    ghost Value = { WorkedView };
+
+    ghost view = { λ a. record { ticket = a.ticket; input = a.input.items; answer = answer_of a.seg.items a.outcome; rules = a.rules.now } };
+
+    ghost invariant = { λ a. Ora a.rules.now a.input.items (answer_of a.seg.items a.outcome) };
+}
+
+impl<'r> Worked<'r> {
+    /// Works the segment, whose gates are those of `input`. It takes no memory.
+    pub fn of(rules: &'r Rules, ticket: u64, input: GateList, seg: Seg) -> Worked<'r>
+        requires { seg.items ≡ input.items }
+        ensures ticket { result.ticket ≡ ticket }
+        ensures input { result.input ≡ input.items }
+        ensures rules { result.rules ≡ rules.entry.now }
+    {
+        let mut seg = seg;
+        let outcome = improve(rules, &mut seg);
+        Worked {
+            ticket,
+            input,
+            seg,
+            outcome,
+            rules,
+        }
+    }
+
+    /// The number under which the segment was handed out.
+    pub fn ticket(&self) -> u64
+        ensures { result ≡ self.now.ticket }
+    {
+        self.ticket
+    }
+
+    /// The gates that went in.
+    pub fn input(&self) -> &[Gate]
+        ensures { result.now ≡ self.now.input }
+    {
+        self.input.as_slice()
+    }
+
+    /// The gates that the oracle left.
+    pub fn output(&self) -> &[Gate]
+        ensures output { result.now ≡ self.now.answer.gates }
+        ensures oracle { Ora self.now.rules self.now.input self.now.answer }
+    {
+        self.seg.gates()
+    }
+
+    /// Whether there was a redex.
+    pub fn improved(&self) -> bool
+        ensures { result ≡ self.now.answer.improved }
+    {
+        self.outcome.improved
+    }
+
+    /// By how many eighths of a whole turn the input turns more than the output, from 0 to 7.
+    pub fn phase(&self) -> u8
+        ensures { result ≡ self.now.answer.phase }
+    {
+        self.outcome.phase
+    }
+}
+
+/// A list of segments that were worked.
+pub type WorkedList<'r> = RoomList<Worked<'r>>;
