@@ -1,11 +1,12 @@
-use Rattle.std.proofs.Common.{◌≡◌, ◌≢◌, ℕ, zero, suc, ◌+◌, ◌%◌, ◌<◌, ◌≤◌, ◌||◌, Bool, true, false, List, [], ◌∷◌, ◌++◌, ◌⊎◌, ⊎_elim, length, map, get_or, take, drop, refl, ap, sym, subst, ◌∙◌, arith, append_assoc}
-use Rattle.std.specs.Prelude.{All, AllPairs, if◌then◌else◌}
-use Rattle.std.specs.List.{AllByRecursion, Any}
+use Rattle.std.proofs.Common.{◌≡◌, ◌≢◌, ℕ, zero, suc, ◌+◌, ◌%◌, ◌<◌, ◌≤◌, ◌||◌, Bool, true, false, List, [], ◌∷◌, ◌++◌, ⊎_elim, length, map, get_or, take, drop, refl, ap, sym, subst, ◌∙◌, arith, append_assoc}
+use Rattle.std.specs.Prelude.{All, AllPairs, Some, if◌then◌else◌}
+use Rattle.std.specs.List.{AllByRecursion}
 use Rattle.std.proofs.Math.Dec.{eqb}
 use Rattle.std.proofs.Math.Nat.{add-zero}
 use Rattle.std.proofs.lemmas.Bool.{eq-eqb, cases_eq}
-use Rattle.std.proofs.lemmas.Bool.Decides.{eqb_tells, nat_tests}
-use Rattle.std.proofs.lemmas.List.{get_or-take, length-take, take-append-drop}
+use Rattle.std.proofs.lemmas.Bool.Decides.{nat_tests}
+use Rattle.std.proofs.lemmas.List.{get_or-take, length-append, length-map, length-take, take-append-drop}
+use Rattle.std.proofs.lemmas.Option.{get_or_from_slice_get, slice_get_within}
 use Rattle.pq_gate.specs.declared.gate.Gate.{Gate}
 use Rattle.pq_gate.specs.declared.gate.Gate.TheVariants.{H, X, Phase, Cx}
 use Rattle.pq_gate.specs.Circuit.{IsOnWires, IsCircuit}
@@ -14,6 +15,7 @@ use Rattle.pq_gate.specs.Matrix.{Same}
 use Rattle.pq_gate.proofs.CircuitLaws.{IsCircuit-front, IsCircuit-back}
 use Rattle.pq_gate.proofs.MoveLaws.{same_moved_inside}
 use Rattle.pq_gate.proofs.SameLaws.{same_reflexive, same_transitive, same_in_front, same_behind, same_congruent}
+use Rattle.pq_rules.specs.Kinds.{row_numbered}
 use Rattle.pq_rules.specs.Renaming.{IsRenaming, renamed}
 use Rattle.pq_rules.specs.Row.{RowView, Uses, IsSound}
 use Rattle.pq_rules.proofs.LiftLaws.{same_renamed}
@@ -64,8 +66,9 @@ pub StandAt-each : (whole : List Gate) (from : ℕ) (c : List Gate) →
     ((k : ℕ) → k < length c → gate_at c k ≡ gate_at whole (from + k)) → StandAt whole from c
 StandAt-each whole from [] each = tt
 StandAt-each whole from (g ∷ c) each = (
-    each 0 (omega arith) ∙ ap (gate_at whole) (add-zero from),
-    StandAt-each whole (from + 1) c (λ k below. each (suc k) (omega arith) ∙ ap (gate_at whole) (omega arith)))
+  each 0 (omega arith) ∙ ap (gate_at whole) (add-zero from),
+  StandAt-each whole (from + 1) c (λ k below. each (suc k) (omega arith) ∙ ap (gate_at whole) (omega arith)),
+)
 
 -- the front of a list stands in it
 pub StandAt-front : (whole : List Gate) (count : ℕ) → StandAt whole 0 (take count whole)
@@ -96,10 +99,11 @@ pub IsFreed-each : (whole : List Gate) (places : List ℕ) (end : ℕ) →
     (from : ℕ) (c : List Gate) → StandAt whole from c → from + length c ≤ end → IsFreed places from c
 IsFreed-each whole places end free from [] at inside = tt
 IsFreed-each whole places end free from (g ∷ c) at inside = (
-    λ is_chosen. subst (λ (h : Gate). AllByRecursion (Commutes h) (unchosen places (from + 1) c)) (sym at.0)
-    (passed (gate_at whole from) whole places from end (λ j not_chosen after below. free from j is_chosen not_chosen after below)
-    (from + 1) c at.1 (omega arith) (omega arith)),
-    IsFreed-each whole places end free (from + 1) c at.1 (omega arith))
+  λ is_chosen. subst (λ (h : Gate). AllByRecursion (Commutes h) (unchosen places (from + 1) c)) (sym at.0)
+      (passed (gate_at whole from) whole places from end (λ j not_chosen after below. free from j is_chosen not_chosen after below)
+      (from + 1) c at.1 (omega arith) (omega arith)),
+  IsFreed-each whole places end free (from + 1) c at.1 (omega arith),
+)
 
 or_second : (x y : Bool) → y ≡ true → (x || y) ≡ true
 or_second true y is = refl
@@ -168,12 +172,13 @@ pub Rise-each : (places : List ℕ) (lo end : ℕ) → AllPairs (λ i j. i < j) 
     ((k : ℕ) → k < length places → lo ≤ get_or places k 0) → Rise lo places end
 Rise-each [] lo end rising inside above = tt
 Rise-each (p ∷ places) lo end rising inside above = (
-    above 0 (omega arith),
-    inside 0 0 (omega arith),
-    Rise-each places (p + 1) end
-    (λ i j d before below. rising (suc i) (suc j) d (omega arith) (omega arith))
-    (λ k d below. inside (suc k) d (omega arith))
-    (λ k below. let more : p < get_or places k 0 = rising 0 (suc k) 0 (omega arith) (omega arith) in omega arith))
+  above 0 (omega arith),
+  inside 0 0 (omega arith),
+  Rise-each places (p + 1) end
+      (λ i j d before below. rising (suc i) (suc j) d (omega arith) (omega arith))
+      (λ k d below. inside (suc k) d (omega arith))
+      (λ k below. let more : p < get_or places k 0 = rising 0 (suc k) 0 (omega arith) (omega arith) in omega arith),
+)
 
 last_below : (p : ℕ) (places : List ℕ) (lo end : ℕ) → Rise lo (p ∷ places) end → last_place (p ∷ places) < end
 last_below p [] lo end rise = rise.1
@@ -240,6 +245,16 @@ replaced n k front back u p q gathers behind same few =
     subst (λ (j : ℕ). Same n (front ++ back) (u ++ (q ++ back)) j) (let turn : (0 + k) % 8 ≡ k = omega arith in turn)
     (same_transitive n 0 k (front ++ back) (u ++ (p ++ back)) (u ++ (q ++ back)) first second)
 
+-- the chosen gates of the front are the pattern's
+chosen_pattern : (gates pattern : List Gate) (wires places : List ℕ) → IsMatch gates pattern wires places →
+    chosen places 0 (take (last_place places + 1) gates) ≡ map (renamed wires) pattern
+chosen_pattern gates pattern wires places matches =
+    let count : ℕ = last_place places + 1 in
+    let front : List Gate = take count gates in
+    let rise : Rise 0 places (length gates) =
+    Rise-each places 0 (length gates) matches.rising matches.inside (λ k below. omega arith) in
+    chosen_at gates places 0 (length front) front (StandAt-front gates count) (omega arith) (Rise-front gates places 0 rise) ∙ matches.chosen
+
 -- the front of the list, with the pattern's gates gathered at its end
 gathered_pattern : (gates pattern : List Gate) (wires places : List ℕ) (n : ℕ) →
     IsMatch gates pattern wires places → AreFree gates places → IsCircuit n (take (last_place places + 1) gates) →
@@ -248,14 +263,10 @@ gathered_pattern : (gates pattern : List Gate) (wires places : List ℕ) (n : �
 gathered_pattern gates pattern wires places n matches free circuit =
     let count : ℕ = last_place places + 1 in
     let front : List Gate = take count gates in
-    let stands : StandAt gates 0 front = StandAt-front gates count in
-    let rise : Rise 0 places (length gates) =
-    Rise-each places 0 (length gates) matches.rising matches.inside (λ k below. omega arith) in
-    let are : chosen places 0 front ≡ map (renamed wires) pattern =
-    chosen_at gates places 0 (length front) front stands (omega arith) (Rise-front gates places 0 rise) ∙ matches.chosen in
-    subst (λ (v : List Gate). Same n front (unchosen places 0 front ++ v) 0) are
+    subst (λ (v : List Gate). Same n front (unchosen places 0 front ++ v) 0) (chosen_pattern gates pattern wires places matches)
     (gathered n places 0 front circuit
-    (IsFreed-each gates places count (free_to_end gates places free) 0 front stands (omega (arith, length-take count gates))))
+    (IsFreed-each gates places count (free_to_end gates places free) 0 front (StandAt-front gates count)
+    (omega (arith, length-take count gates))))
 
 -- Rewriting a redex of a sound row turns the matrix back by the row's phase: the chosen gates may move to the last
 -- chosen place, and there the renamed pattern may be replaced.
@@ -278,3 +289,38 @@ rewriting_keeps rules gates redex is n sound circuit =
     same_renamed is.row.wires n is.row.phase redex.wires is.row.pattern is.row.replacement renames sound.same in
     subst (λ (c : List Gate). Same n c (u ++ (q ++ back)) is.row.phase) whole
     (replaced n is.row.phase front back u p q gathers (IsCircuit-back n front back parts) same sound.turn)
+
+length_more : (g : Gate) (c u v : List Gate) (b : Bool) → length u + length v ≡ length c →
+    length (if b then u else g ∷ u) + length (if b then g ∷ v else v) ≡ length (g ∷ c)
+length_more g c u v true is = omega arith
+length_more g c u v false is = omega arith
+
+-- each gate is chosen or isn't
+length-unchosen : (places : List ℕ) (from : ℕ) (c : List Gate) → length (unchosen places from c) + length (chosen places from c) ≡ length c
+length-unchosen places from [] = refl
+length-unchosen places from (g ∷ c) =
+    length_more g c (unchosen places (from + 1) c) (chosen places (from + 1) c) (is_chosen places from) (length-unchosen places (from + 1) c)
+
+-- Rewriting a redex of a sound row shortens the list.
+pub rewriting_shortens : (rules : List RowView) (gates : List Gate) (redex : RedexView) (is : IsRedex rules gates redex) →
+    IsSound is.row → length (rewritten gates is.row.replacement redex) < length gates
+rewriting_shortens rules gates redex is sound =
+    let count : ℕ = last_place redex.places + 1 in
+    let front : List Gate = take count gates in
+    let back : List Gate = drop count gates in
+    let u : List Gate = unchosen redex.places 0 front in
+    let q : List Gate = map (renamed redex.wires) is.row.replacement in
+    let whole : length front + length back ≡ length gates =
+    sym (length-append front back) ∙ ap (λ (c : List Gate). length c) (take-append-drop count gates) in
+    let parts : length u + length (chosen redex.places 0 front) ≡ length front = length-unchosen redex.places 0 front in
+    let are : length (chosen redex.places 0 front) ≡ length is.row.pattern =
+    ap (λ (c : List Gate). length c) (chosen_pattern gates is.row.pattern redex.wires redex.places is.matches) ∙
+    length-map is.row.pattern (renamed redex.wires) in
+    omega (arith, length-append u (q ++ back), length-append q back, length-map is.row.replacement (renamed redex.wires), sound.shorter)
+
+-- the row of a number is one of the rows
+pub IsSound-numbered : (rules : List RowView) (number : ℕ) (row : RowView) → row_numbered rules number ≡ Some row →
+    All IsSound rules → IsSound row
+IsSound-numbered rules zero row numbered sound = absurd (cc)
+IsSound-numbered rules (suc k) row numbered sound =
+    subst IsSound (get_or_from_slice_get rules k row row numbered) (sound k row (slice_get_within rules k row numbered))
