@@ -1,0 +1,4 @@
+mod FirstOfOrder
+mod FirstOfSettled
+pub mod OneFirst
+pub mod SomeFirst
