@@ -1,0 +1,5 @@
+pub mod Moving
+mod FirstOfOrder
+mod FirstOfSettled
+pub mod OneFirst
+pub mod SomeFirst
