@@ -4,6 +4,8 @@
 mod improve;
 mod laws;
 mod pairs;
+#[cfg(test)]
+mod tests;
 mod worked;
 
 pub use improve::{Outcome, improve};

@@ -24,10 +24,9 @@ const BY_HAND: &str =
     "OPENQASM 2.0;\ninclude \"qelib1.inc\";\nqreg q[3];\ncreg c[3];\nh q[0];\ncx q[0],q[1];\n\
     t q[1];\ntdg q[1];\ncx q[0],q[1];\nh q;\nbarrier q;\nmeasure q -> c;\n";
 
-const BY_HAND_OUTPUT: &str =
-    "OPENQASM 2.0;\ninclude \"qelib1.inc\";\nqreg q[3];\ncreg c[3];\nh q[0];\n\
-    cx q[0],q[1];\nt q[1];\ntdg q[1];\ncx q[0],q[1];\nh q[0];\nh q[1];\nh q[2];\n\
-    barrier q[0],q[1],q[2];\nmeasure q[0] -> c[0];\nmeasure q[1] -> c[1];\nmeasure q[2] -> c[2];\n";
+const BY_HAND_OUTPUT: &str = "OPENQASM 2.0;\ninclude \"qelib1.inc\";\nqreg q[3];\ncreg c[3];\n\
+    h q[1];\nh q[2];\nbarrier q[0],q[1],q[2];\n\
+    measure q[0] -> c[0];\nmeasure q[1] -> c[1];\nmeasure q[2] -> c[2];\n";
 
 // A device: how many bytes a call moves at most, and which call fails.
 #[derive(Clone, Copy)]
@@ -240,5 +239,86 @@ fn arguments_that_cannot_be_had_are_noted(rt: HostRuntime) -> Result<(), Fail> {
     assert_eq!(&rt; refuse_arguments(&mut notes, ArgumentFault::NotText), 2);
     assert_eq!(&rt; refuse_arguments(&mut notes, ArgumentFault::OutOfMemory), 6);
     assert!(&rt; notes.held() == b"popqc: usage: words\npopqc: out of memory\n".as_slice());
+    Ok(())
+}
+
+// Runs a text of these gates on four wires, and compares the gates that are written.
+fn leaves(
+    rt: &(impl Abort + AllocGlobal + Threads + Sync),
+    gates: &str,
+    left: &str,
+) -> Result<(), AllocError> {
+    let front = "OPENQASM 2.0;\ninclude \"qelib1.inc\";\nqreg q[4];\n";
+    let mut text = String::from_str(rt.alloc(), front)?;
+    text.push_str(gates)?;
+    let mut output = String::from_str(rt.alloc(), front)?;
+    output.push_str(left)?;
+    accepts(rt, 100, text.as_str(), output.as_str())
+}
+
+#[test]
+fn a_pair_leaves_and_a_phase_merges_across_a_control_and_not_across_a_target(
+    rt: HostRuntime,
+) -> Result<(), Fail> {
+    leaves(&rt, "h q[0];\nh q[0];\n", "")?;
+    leaves(
+        &rt,
+        "t q[0];\ncx q[0],q[1];\nt q[0];\n",
+        "cx q[0],q[1];\ns q[0];\n",
+    )?;
+    leaves(
+        &rt,
+        "t q[1];\ncx q[0],q[1];\nt q[1];\n",
+        "t q[1];\ncx q[0],q[1];\nt q[1];\n",
+    )?;
+    Ok(())
+}
+
+#[test]
+fn a_phase_is_conjugated_and_three_eighths_have_no_gate(rt: HostRuntime) -> Result<(), Fail> {
+    leaves(&rt, "x q[0];\nt q[0];\nx q[0];\n", "tdg q[0];\n")?;
+    leaves(
+        &rt,
+        "h q[0];\ns q[0];\nh q[0];\ns q[0];\n",
+        "sdg q[0];\nh q[0];\n",
+    )?;
+    leaves(&rt, "t q[0];\ns q[0];\n", "t q[0];\ns q[0];\n")?;
+    leaves(
+        &rt,
+        "h q[0];\nt q[1];\ns q[1];\nh q[0];\n",
+        "t q[1];\ns q[1];\n",
+    )?;
+    Ok(())
+}
+
+#[test]
+fn three_cx_become_two_and_hadamards_turn_a_cx_round(rt: HostRuntime) -> Result<(), Fail> {
+    leaves(
+        &rt,
+        "cx q[0],q[1];\ncx q[1],q[2];\ncx q[0],q[1];\n",
+        "cx q[1],q[2];\ncx q[0],q[2];\n",
+    )?;
+    leaves(
+        &rt,
+        "h q[0];\nh q[1];\ncx q[0],q[1];\nh q[1];\nh q[0];\n",
+        "cx q[1],q[0];\n",
+    )?;
+    Ok(())
+}
+
+#[test]
+fn a_toffoli_and_a_swap_stay_as_they_are_expanded(rt: HostRuntime) -> Result<(), Fail> {
+    leaves(
+        &rt,
+        "ccx q[0],q[1],q[2];\n",
+        "h q[2];\ncx q[1],q[2];\ntdg q[2];\ncx q[0],q[2];\nt q[2];\n\
+        cx q[1],q[2];\ntdg q[2];\ncx q[0],q[2];\nt q[1];\nt q[2];\nh q[2];\ncx q[0],q[1];\n\
+        t q[0];\ntdg q[1];\ncx q[0],q[1];\n",
+    )?;
+    leaves(
+        &rt,
+        "swap q[0],q[1];\n",
+        "cx q[0],q[1];\ncx q[1],q[0];\ncx q[0],q[1];\n",
+    )?;
     Ok(())
 }

@@ -3,5 +3,5 @@ use Rattle.pq_top.proofs.optimise.optimised.Goals as goal
 
 pub write_program-requires : goal.write_program-requires
 write_program-requires c =
-    formed_with c.in_ok-program.program _ c.in_ok-gates.gates c.as_slice-2.ensures c.in_ok-program.ensures.well_formed
-    c.in_ok-gates.ensures.cancelled c.in_ok-gates.ensures.same
+    formed_with c.in_ok-program.program _ c.in_ok-optimised.optimised.gates _ c.as_slice-2.ensures c.in_ok-program.ensures.well_formed
+    c.in_ok-optimised.ensures.shorter c.in_ok-optimised.ensures.same

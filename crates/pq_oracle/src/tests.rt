@@ -1,0 +1,87 @@
+ghost use Rattle.std.specs.Prelude.{◌≡◌, ◌≤◌, length, IfOk};
+
+use crate::{Outcome, Worked, WorkedList, improve};
+use pq_gate::{Eighths, Gate, GateList};
+use pq_match::Seg;
+use pq_rules::Rules;
+use std::alloc::{AllocError, Global};
+use std::process::Abort;
+use std::test::Fail;
+
+const H: Gate = Gate::H { wire: 0 };
+
+const X: Gate = Gate::X { wire: 0 };
+
+const fn phase(eighths: Eighths) -> Gate {
+    Gate::Phase { eighths, wire: 0 }
+}
+
+const T: Gate = phase(Eighths::T);
+
+const S: Gate = phase(Eighths::S);
+
+// The segment of these gates, with room for no more.
+fn segment(alloc: Global, gates: &[Gate]) -> Result<Seg, AllocError>
+    requires { length gates.now ≤ 16 }
+    ensures { IfOk result (λ seg. seg.items ≡ gates.now) }
+{
+    let mut seg = Seg::reserve(alloc, gates.len() as u32)?;
+    for gate in gates {
+        seg.push(*gate);
+    }
+    Ok(seg)
+}
+
+fn leaves(
+    rt: &(impl Abort + AllocGlobal),
+    gates: &[Gate],
+    left: &[Gate],
+    improved: bool,
+    phase: u8,
+) -> Result<(), AllocError>
+    requires { length gates.now ≤ 16 }
+{
+    let rules = Rules::builtin(rt.alloc())?;
+    let mut seg = segment(rt.alloc(), gates)?;
+    let outcome = improve(&rules, &mut seg);
+    assert!(rt; seg.gates() == left, "{gates:?}");
+    assert_eq!(rt; outcome, Outcome { improved, phase }, "{gates:?}");
+    Ok(())
+}
+
+#[test]
+fn rewriting_goes_on_until_there_is_no_redex(rt: HostRuntime) -> Result<(), Fail> {
+    leaves(&rt, &[], &[], false, 0)?;
+    leaves(&rt, &[H, H], &[], true, 0)?;
+    leaves(&rt, &[T, S], &[T, S], false, 0)?;
+    leaves(&rt, &[X, T, X], &[phase(Eighths::Tdg)], true, 1)?;
+    leaves(&rt, &[H, S, H, S], &[phase(Eighths::Sdg), H], true, 1)?;
+    leaves(&rt, &[X, T, X, X, T, X], &[phase(Eighths::Sdg)], true, 2)?;
+    leaves(
+        &rt,
+        &[H, X, X, H, T, T, T, T],
+        &[phase(Eighths::Z)],
+        true,
+        0,
+    )?;
+    Ok(())
+}
+
+#[test]
+fn worked_segments_are_kept_with_their_input_and_their_answer(rt: HostRuntime) -> Result<(), Fail> {
+    let rules = Rules::builtin(rt.alloc())?;
+    let mut list = WorkedList::with_room(rt.alloc(), 2)?;
+    assert_eq!(&rt; list.room(), 2);
+    let input = GateList::of(Vec::from_slice(rt.alloc(), &[H, H])?);
+    let seg = segment(rt.alloc(), &[H, H])?;
+    list.push_kept(Worked::of(&rules, 7, input, seg));
+    for worked in list.as_slice() {
+        assert_eq!(&rt; worked.ticket(), 7);
+        assert!(&rt; worked.input() == [H, H].as_slice());
+        assert!(&rt; worked.output().is_empty());
+        assert!(&rt; worked.improved());
+        assert_eq!(&rt; worked.phase(), 0);
+    }
+    assert_eq!(&rt; list.as_slice().len(), 1);
+    Ok(())
+}
