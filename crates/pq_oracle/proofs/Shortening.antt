@@ -10,6 +10,7 @@ use Rattle.pq_match.specs.Redex.{RedexView, IsRedex, is_chosen, last_place}
 use Rattle.pq_match.specs.Rewrite.{unchosen, rewritten}
 use Rattle.pq_match.proofs.OneFirst.{row_sound, places_long}
 
+-- each place is followed by greater ones
 abbrev Rises : List ℕ → Type 0
 Rises places = AllPairs (λ i j. i < j) places
 
