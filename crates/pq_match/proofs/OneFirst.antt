@@ -54,7 +54,7 @@ wires_once gates row e f places sound e_long f_long left right =
     led_once e f uses.1 w uses.4 (sym (chosen_at left uses.0 uses.1 uses.2 uses.3) ∙ chosen_at right uses.0 uses.1 uses.2 uses.3))
 
 module _ (rules : List RowView) (gates : List Gate) (x y : RedexView) (left : IsRedex rules gates x) (right : IsRedex rules gates y) where
-  one_row : x.row ≡ y.row → left.row ≡ right.row
+  pub one_row : x.row ≡ y.row → left.row ≡ right.row
   one_row same =
       let numbered : row_numbered rules x.row ≡ row_numbered rules y.row = ap (row_numbered rules) same in cc (numbered, left.numbered, right.numbered)
 

@@ -3,3 +3,5 @@ pub mod ArisesLaws
 pub mod Meaning
 pub mod OneMore
 pub mod Reduced
+pub mod Shortening
+pub mod OneAnswer
