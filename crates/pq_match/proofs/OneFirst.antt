@@ -119,12 +119,9 @@ some_place rules gates redex sound is =
     omega (arith, shorter, places_long is.matches)
 
 -- each redex lies within the length of the list
-pub redex_within_all : (rules : List RowView) (gates : List Gate) (redex : RedexView) → All IsSound rules → IsRedex rules gates redex →
-    IsWithin (length gates) redex
-redex_within_all rules gates redex sound is =
-    omega (arith, last_inside (length gates) redex.places is.matches.inside (some_place rules gates redex sound is))
+pub redex_within_all : (rules : List RowView) (gates : List Gate) (redex : RedexView) → IsRedex rules gates redex → IsWithin (length gates) redex
+redex_within_all rules gates redex is = omega (arith, last_inside (length gates) redex.places is.matches.inside is.some)
 
 -- a list without a redex within its length has none
-pub first_of_all : (rules : List RowView) (gates : List Gate) → HasNoneWithin rules gates (length gates) → All IsSound rules →
-    HasNoRedex rules gates
-first_of_all rules gates none sound redex is = none redex is (redex_within_all rules gates redex sound is)
+pub first_of_all : (rules : List RowView) (gates : List Gate) → HasNoneWithin rules gates (length gates) → HasNoRedex rules gates
+first_of_all rules gates none redex is = none redex is (redex_within_all rules gates redex is)

@@ -15,7 +15,7 @@ module _ (rules : List RowView) (sound : All IsSound rules) where
   -- one step, where each shorter list has its answer
   some_step : (gates : List Gate) → ((shorter : List Gate) → length shorter < length gates → (answer : Answer) × Ora rules shorter answer) →
       (found : Option RedexView) → FirstWithin rules gates (length gates) found → (answer : Answer) × Ora rules gates answer
-  some_step gates before None none = (untouched gates, ends gates (first_of_all rules gates none sound))
+  some_step gates before None none = (untouched gates, ends gates (first_of_all rules gates none))
   some_step gates before (Some redex) first =
       let rest = before (rewritten gates first.is.row.replacement redex) (rewriting_shortens rules gates redex first.is sound) in
       (after_one first.is.row.phase rest.0, goes gates redex first rest.0 rest.1)
