@@ -54,7 +54,7 @@ wires_once gates row e f places sound e_long f_long left right =
     led_once e f uses.1 w uses.4 (sym (chosen_at left uses.0 uses.1 uses.2 uses.3) ∙ chosen_at right uses.0 uses.1 uses.2 uses.3))
 
 module _ (rules : List RowView) (gates : List Gate) (x y : RedexView) (left : IsRedex rules gates x) (right : IsRedex rules gates y) where
-  one_row : x.row ≡ y.row → left.row ≡ right.row
+  pub one_row : x.row ≡ y.row → left.row ≡ right.row
   one_row same =
       let numbered : row_numbered rules x.row ≡ row_numbered rules y.row = ap (row_numbered rules) same in cc (numbered, left.numbered, right.numbered)
 
@@ -119,12 +119,9 @@ some_place rules gates redex sound is =
     omega (arith, shorter, places_long is.matches)
 
 -- each redex lies within the length of the list
-pub redex_within_all : (rules : List RowView) (gates : List Gate) (redex : RedexView) → All IsSound rules → IsRedex rules gates redex →
-    IsWithin (length gates) redex
-redex_within_all rules gates redex sound is =
-    omega (arith, last_inside (length gates) redex.places is.matches.inside (some_place rules gates redex sound is))
+pub redex_within_all : (rules : List RowView) (gates : List Gate) (redex : RedexView) → IsRedex rules gates redex → IsWithin (length gates) redex
+redex_within_all rules gates redex is = omega (arith, last_inside (length gates) redex.places is.matches.inside is.some)
 
 -- a list without a redex within its length has none
-pub first_of_all : (rules : List RowView) (gates : List Gate) → HasNoneWithin rules gates (length gates) → All IsSound rules →
-    HasNoRedex rules gates
-first_of_all rules gates none sound redex is = none redex is (redex_within_all rules gates redex sound is)
+pub first_of_all : (rules : List RowView) (gates : List Gate) → HasNoneWithin rules gates (length gates) → HasNoRedex rules gates
+first_of_all rules gates none redex is = none redex is (redex_within_all rules gates redex is)

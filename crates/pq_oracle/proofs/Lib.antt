@@ -4,3 +4,5 @@ pub mod Meaning
 pub mod OneMore
 pub mod Reduced
 pub mod Improving
+pub mod Shortening
+pub mod OneAnswer
