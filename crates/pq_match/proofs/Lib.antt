@@ -1,0 +1,3 @@
+pub mod RewritingLists
+pub mod RewritingPlaces
+pub mod RewritingWires
