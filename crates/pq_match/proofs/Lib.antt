@@ -1,3 +1,4 @@
+pub mod Rewriting
 pub mod RewritingLists
 pub mod RewritingPlaces
 pub mod RewritingWires
