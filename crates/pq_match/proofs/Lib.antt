@@ -1,3 +1,8 @@
+pub mod Moving
+mod FirstOfOrder
+mod FirstOfSettled
+pub mod OneFirst
+pub mod SomeFirst
 pub mod Rewriting
 pub mod RewritingLists
 pub mod RewritingPlaces

@@ -1,3 +1,4 @@
+pub mod Answering
 pub mod ArisesLaws
 pub mod Meaning
 pub mod OneMore

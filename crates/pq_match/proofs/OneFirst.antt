@@ -1,0 +1,130 @@
+-- There is at most one first redex.
+use Rattle.std.proofs.Common.{◌≡◌, ℕ, zero, suc, ◌<◌, List, [], ◌∷◌, length, get_or, inl, inr, refl, ap, sym, subst, ◌∙◌, arith}
+use Rattle.std.specs.Prelude.{All, Option, Some, None}
+use Rattle.std.proofs.lemmas.List.{length-map, get_or-map, ext_get_or}
+use Rattle.std.proofs.lemmas.Option.{slice_get_within, get_or_from_slice_get}
+use Rattle.pq_gate.specs.declared.gate.Gate.{Gate}
+use Rattle.pq_gate.specs.declared.gate.Gate.TheVariants.{H, X, Phase, Cx}
+use Rattle.pq_gate.specs.Commuting.{Touches}
+use Rattle.pq_rules.specs.Row.{RowView, Uses, IsSound}
+use Rattle.pq_rules.specs.Renaming.{renamed}
+use Rattle.pq_rules.specs.Kinds.{row_numbered}
+use Rattle.pq_match.specs.Redex.{RedexView, IsRedex, IsMatch, IsWithin, HasNoRedex, gate_at, last_place}
+use Rattle.pq_match.specs.First.{Precedes, key, IsFirst, HasNoneWithin, FirstWithin}
+use Rattle.pq_match.proofs.FirstOfOrder.{Comes, comes_cases, precedes_from_comes}
+
+-- a row that has a number is one of the rows
+pub row_sound : (rules : List RowView) (number : ℕ) (row : RowView) → row_numbered rules number ≡ Some row → All IsSound rules → IsSound row
+row_sound rules zero row is sound = absurd (cc)
+row_sound rules (suc k) row is sound =
+    subst IsSound (get_or_from_slice_get rules k row row is) (sound k row (slice_get_within rules k row is))
+
+pub number_small : (rules : List RowView) (number : ℕ) (row : RowView) → row_numbered rules number ≡ Some row → number < suc (length rules)
+number_small rules zero row is = omega arith
+number_small rules (suc k) row is = omega (arith, slice_get_within rules k row is)
+
+-- a redex has a place for each gate of its pattern
+pub places_long : {gates pattern : List Gate} {wires places : List ℕ} → IsMatch gates pattern wires places → length places ≡ length pattern
+places_long {gates} {pattern} {wires} {places} is =
+    sym (length-map places (gate_at gates)) ∙ ap length is.chosen ∙ length-map pattern (renamed wires)
+
+-- the gate at a place is the pattern's, renamed
+pub chosen_at : {gates pattern : List Gate} {wires places : List ℕ} → IsMatch gates pattern wires places → (k : ℕ) (g : Gate) →
+    k < length pattern → get_or pattern k g ≡ g → gate_at gates (get_or places k 0) ≡ renamed wires g
+chosen_at {gates} {pattern} {wires} {places} is k g inside here =
+    sym (get_or-map (gate_at gates) places k 0 g (omega (arith, places_long is))) ∙
+    ap (λ (c : List Gate). get_or c k g) is.chosen ∙
+    get_or-map (renamed wires) pattern k g g inside ∙
+    ap (renamed wires) here
+
+-- a wire of a gate is led to one wire, where the renamed gate is one
+led_once : (e f : List ℕ) (g : Gate) (w : ℕ) → Touches g w → renamed e g ≡ renamed f g → get_or e w 0 ≡ get_or f w 0
+led_once e f (H v) w here same = cc
+led_once e f (X v) w here same = cc
+led_once e f (Phase k v) w here same = cc
+led_once e f (Cx c t) w here same = elim here [ inl is ↦ cc | inr is ↦ cc ]
+
+-- so the places of a redex choose its wires
+wires_once : (gates : List Gate) (row : RowView) (e f places : List ℕ) → IsSound row → length e ≡ row.wires → length f ≡ row.wires →
+    IsMatch gates row.pattern e places → IsMatch gates row.pattern f places → e ≡ f
+wires_once gates row e f places sound e_long f_long left right =
+    ext_get_or 0 e f (e_long ∙ sym f_long)
+    (λ w inside.
+    let uses : Uses row.pattern w = sound.used w (omega (arith, e_long)) in
+    led_once e f uses.1 w uses.4 (sym (chosen_at left uses.0 uses.1 uses.2 uses.3) ∙ chosen_at right uses.0 uses.1 uses.2 uses.3))
+
+module _ (rules : List RowView) (gates : List Gate) (x y : RedexView) (left : IsRedex rules gates x) (right : IsRedex rules gates y) where
+  one_row : x.row ≡ y.row → left.row ≡ right.row
+  one_row same =
+      let numbered : row_numbered rules x.row ≡ row_numbered rules y.row = ap (row_numbered rules) same in cc (numbered, left.numbered, right.numbered)
+
+  -- redexes of one row have equally many places, so their keys are ordered
+  key_precedes : Comes (key x) (key y) → Precedes (key x) (key y)
+  key_precedes before =
+      elim before [
+        | inl less ↦ inl less
+        | inr rest ↦ inr (
+          rest.0,
+          elim rest.1 [
+            | inl less ↦ inl less
+            | inr last ↦ inr (
+              last.0,
+              precedes_from_comes x.places y.places
+                  (places_long left.matches ∙ ap (λ (r : RowView). length r.pattern) (one_row last.0) ∙ sym (places_long right.matches)) last.1,
+            )
+          ],
+        )
+      ]
+
+  one_redex : All IsSound rules → key x ≡ key y → x ≡ y
+  one_redex sound same =
+      let row : x.row ≡ y.row = cc in
+      let places : x.places ≡ y.places = cc in
+      let rows : right.row ≡ left.row = sym (one_row row) in
+      let wires : x.wires ≡ y.wires = wires_once gates left.row x.wires y.wires x.places (row_sound rules x.row left.row left.numbered sound)
+      left.wires.whole (right.wires.whole ∙ ap (λ (r : RowView). r.wires) rows) left.matches
+      (subst (λ (ps : List ℕ). IsMatch gates left.row.pattern y.wires ps) (sym places)
+      (subst (λ (r : RowView). IsMatch gates r.pattern y.wires y.places) rows right.matches)) in
+      λ i. record { row = row i; wires = wires i; places = places i }
+
+pub one_first : (rules : List RowView) (gates : List Gate) (span : ℕ) (x y : RedexView) → All IsSound rules →
+    IsFirst rules gates span x → IsFirst rules gates span y → x ≡ y
+one_first rules gates span x y sound left right =
+    elim (comes_cases (key x) (key y)) [
+      | inl before ↦ absurd (right.first x left.is left.within (key_precedes rules gates x y left.is right.is before))
+      | inr other ↦ elim other [
+        | inl same ↦ one_redex rules gates x y left.is right.is sound same
+        | inr after ↦ absurd (left.first y right.is right.within (key_precedes rules gates y x right.is left.is after))
+      ]
+    ]
+
+pub one_found : (rules : List RowView) (gates : List Gate) (span : ℕ) (found other : Option RedexView) → All IsSound rules →
+    FirstWithin rules gates span found → FirstWithin rules gates span other → found ≡ other
+one_found rules gates span None None sound left right = refl
+one_found rules gates span None (Some y) sound left right = absurd (left y right.is right.within)
+one_found rules gates span (Some x) None sound left right = absurd (right x left.is left.within)
+one_found rules gates span (Some x) (Some y) sound left right = ap Some (one_first rules gates span x y sound left right)
+
+last_inside : (n : ℕ) (places : List ℕ) → All (λ i. i < n) places → 0 < length places → last_place places < n
+last_inside n [] inside some = absurd (omega arith)
+last_inside n (p ∷ []) inside some = inside 0 0 (omega arith)
+last_inside n (p ∷ q ∷ places) inside some =
+    last_inside n (q ∷ places) (λ k d k_inside. inside (suc k) d (omega arith)) (omega arith)
+
+-- a redex chooses some gate
+pub some_place : (rules : List RowView) (gates : List Gate) (redex : RedexView) → All IsSound rules → IsRedex rules gates redex →
+    0 < length redex.places
+some_place rules gates redex sound is =
+    let shorter : length is.row.replacement < length is.row.pattern = (row_sound rules redex.row is.row is.numbered sound).shorter in
+    omega (arith, shorter, places_long is.matches)
+
+-- each redex lies within the length of the list
+pub redex_within_all : (rules : List RowView) (gates : List Gate) (redex : RedexView) → All IsSound rules → IsRedex rules gates redex →
+    IsWithin (length gates) redex
+redex_within_all rules gates redex sound is =
+    omega (arith, last_inside (length gates) redex.places is.matches.inside (some_place rules gates redex sound is))
+
+-- a list without a redex within its length has none
+pub first_of_all : (rules : List RowView) (gates : List Gate) → HasNoneWithin rules gates (length gates) → All IsSound rules →
+    HasNoRedex rules gates
+first_of_all rules gates none sound redex is = none redex is (redex_within_all rules gates redex sound is)
