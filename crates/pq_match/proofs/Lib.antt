@@ -3,3 +3,7 @@ mod FirstOfOrder
 mod FirstOfSettled
 pub mod OneFirst
 pub mod SomeFirst
+pub mod Rewriting
+pub mod RewritingLists
+pub mod RewritingPlaces
+pub mod RewritingWires

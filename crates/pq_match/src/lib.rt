@@ -3,6 +3,7 @@
 
 pub mod laws;
 mod redex;
+mod rewrite;
 mod segment;
 
 pub use redex::Redex;
