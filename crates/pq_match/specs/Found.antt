@@ -33,9 +33,11 @@ pub record IsRedexOf (rules : List RowView) (gates : List Gate) (redex : Redex) 
   pub is : IsRedex rules gates (seen redex wires)
   pub few : redex.count ≤ 8
 
--- a redex of the old list was rewritten, which gave the new one; this is the phase of its row
-pub record Rewrites (rules : List RowView) (old : List Gate) (redex : Redex) (new : List Gate) (phase : ℕ) : Type 0 where
-  pub wires : List ℕ
-  pub is : IsRedex rules old (seen redex wires)
-  pub gates : new ≡ rewritten old is.row.replacement (seen redex wires)
-  pub turn : phase ≡ is.row.phase
+-- the new gates are the old ones with the redex rewritten by the row, which has this phase
+pub record IsRewritten (old : List Gate) (row : RowView) (redex : RedexView) (new : List Gate) (phase : ℕ) : Type 0 where
+  pub gates : new ≡ rewritten old row.replacement redex
+  pub turn : phase ≡ row.phase
+
+-- The redex of the old list was rewritten, whichever way it is seen as one: its wires are determined.
+abbrev pub Rewrites : List RowView → List Gate → Redex → List Gate → ℕ → Type 0
+Rewrites rules old redex new phase = (wires : List ℕ) (is : IsRedex rules old (seen redex wires)) → IsRewritten old is.row (seen redex wires) new phase

@@ -8,3 +8,4 @@ pub mod Redex
 pub mod First
 pub mod Rewrite
 pub mod Found
+pub mod Search

@@ -44,11 +44,12 @@ pub record RedexView : Type 0 where
   pub wires : List ℕ
   pub places : List ℕ
 
--- A redex of a list of gates under the rows of rules, which are numbered from 1.
+-- A redex of a list of gates under the rows of rules, which are numbered from 1. It chooses some gate.
 pub record IsRedex (rules : List RowView) (gates : List Gate) (redex : RedexView) : Type 0 where
   pub row : RowView
   pub numbered : row_numbered rules redex.row ≡ Some row
   pub wires : AreWires row.wires redex.wires
+  pub some : 0 < length redex.places
   pub matches : IsMatch gates row.pattern redex.wires redex.places
   pub free : AreFree gates redex.places
 
