@@ -17,10 +17,13 @@ wire_of second (X wire) = wire
 wire_of second (Phase eighths wire) = wire
 wire_of second (Cx control target) = cond second target control
 
+-- a wire is one of the gate's wires exactly where the pattern's wire is that of the pattern's gate
+abbrev pub IsAlike : ℕ → Gate → ℕ → Gate → Type 0
+IsAlike of_wire of_gate wire gate = (other : Bool) → (wire ≡ wire_of other gate) ↔ (of_wire ≡ wire_of other of_gate)
+
 -- the wires of the first gate are equal to those of the second exactly where those of the pattern's gates are
 abbrev pub AreAlike : Gate → Gate → Gate → Gate → Type 0
-AreAlike of_first of_second first second = (one other : Bool) →
-    (wire_of one first ≡ wire_of other second) ↔ (wire_of one of_first ≡ wire_of other of_second)
+AreAlike of_first of_second first second = (one : Bool) → IsAlike (wire_of one of_first) of_second (wire_of one first) second
 
 -- The gate at the last of `count` places fits to the pattern, as do its wires to those of the gates before it.
 pub record IsFitting (gates pattern : List Gate) (places : List ℕ) (last : ℕ) : Type 0 where

@@ -4,7 +4,7 @@ ghost use Rattle.pq_rules.specs.Kinds.{kind_of};
 ghost use Rattle.pq_rules.specs.Row.{IsSound};
 ghost use Rattle.pq_match.specs.Found.{FindsWithin};
 ghost use Rattle.pq_match.specs.Redex.{gate_at};
-ghost use Rattle.pq_match.specs.Search.{wire_of, AreAlike, IsFitting, AreClear, IsGrown, FindsFull, AreEight, FindsAmong, IsFrom, IsOfRow};
+ghost use Rattle.pq_match.specs.Search.{wire_of, IsAlike, AreAlike, IsFitting, AreClear, IsGrown, FindsFull, AreEight, FindsAmong, IsFrom, IsOfRow};
 
 use crate::redex::Redex;
 use crate::segment::Seg;
@@ -161,11 +161,18 @@ fn is_passable(gates: &[Gate], places: &[u32; 8], count: usize, place: u32) -> b
 fn are_alike(of_first: Gate, of_second: Gate, first: Gate, second: Gate) -> bool
     ensures { IsTrue result ↔ AreAlike of_first of_second first second }
 {
-    let (p, q) = wires(of_first);
-    let (r, s) = wires(of_second);
-    let (a, b) = wires(first);
-    let (c, d) = wires(second);
-    (a == c) == (p == r) && (a == d) == (p == s) && (b == c) == (q == r) && (b == d) == (q == s)
+    let (of_wire, of_other) = wires(of_first);
+    let (wire, other) = wires(first);
+    is_alike(of_wire, of_second, wire, second) && is_alike(of_other, of_second, other, second)
+}
+
+// whether a wire is one of the gate's wires exactly where the pattern's wire is that of the pattern's gate
+fn is_alike(of_wire: u32, of_gate: Gate, wire: u32, gate: Gate) -> bool
+    ensures { IsTrue result ↔ IsAlike of_wire of_gate wire gate }
+{
+    let (p, q) = wires(of_gate);
+    let (v, w) = wires(gate);
+    (wire == v) == (of_wire == p) && (wire == w) == (of_wire == q)
 }
 
 // the wires that the gate uses: one twice, if it uses one only
