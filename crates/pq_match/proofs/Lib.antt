@@ -1,3 +1,7 @@
 pub mod Growing
 pub mod GrowingWalk
 pub mod SearchWires
+pub mod SearchChoice
+pub mod SearchGates
+pub mod SearchPlaces
+pub mod SearchMatch
