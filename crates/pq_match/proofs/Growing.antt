@@ -46,6 +46,18 @@ module _ (gates pattern : List Gate) (places other : List ℕ) where
         (subst (λ (q : ℕ). AreAlike (gate_at pattern s) (gate_at pattern last) (gate_at gates (get_or places s 0)) (gate_at gates q)) (same last (omega arith)) (fits.wires s upto));
   }
 
+  pub grown_same : (end count : ℕ) → ((s : ℕ) → s < count → get_or places s 0 ≡ get_or other s 0) → IsGrown gates pattern end places count → IsGrown gates pattern end other count
+  grown_same end count same grown = record {
+    rising = λ s t less below.
+        subst (λ (p : ℕ). p < get_or other t 0) (same s (omega arith)) (subst (λ (q : ℕ). get_or places s 0 < q) (same t below) (grown.rising s t less below));
+    inside = λ s below. subst (λ (p : ℕ). p < end) (same s below) (grown.inside s below);
+    fitting = λ s below. fitting_same s (λ t upto. same t (omega arith)) (grown.fitting s below);
+    clear = λ t t_below s p s_below passed more less.
+        subst (λ (q : ℕ). Commutes (gate_at gates q) (gate_at gates p)) (same s s_below)
+        (grown.clear t t_below s p s_below (λ r r_below at. passed r r_below (sym (same r r_below) ∙ at))
+        (subst (λ (q : ℕ). q < p) (sym (same s s_below)) more) (subst (λ (q : ℕ). p < q) (sym (same t t_below)) less));
+  }
+
 -- The gate that is put in fits, and what it passes commutes with the gates before it: then all of them have grown.
 module _ (gates pattern : List Gate) (end : ℕ) (places : List ℕ) (count place : ℕ) where
   pub grown_more : IsGrown gates pattern end places count → length places ≡ 8 → count < 8 → ((s : ℕ) → s < count → get_or places s 0 < place) → AreClear gates places count place →

@@ -5,3 +5,4 @@ pub mod SearchChoice
 pub mod SearchGates
 pub mod SearchPlaces
 pub mod SearchMatch
+pub mod SearchRow
