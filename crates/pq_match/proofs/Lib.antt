@@ -6,3 +6,6 @@ pub mod SearchGates
 pub mod SearchPlaces
 pub mod SearchMatch
 pub mod SearchRow
+pub mod SearchNumbers
+pub mod SearchFrom
+pub mod SearchWithin

@@ -16,37 +16,45 @@ use Rattle.pq_match.proofs.SearchChoice.{IsChoice, choose}
 use Rattle.pq_match.proofs.SearchGates.{kind-renamed, wire_below, gate_on_wires, wire_used, renamed_by_wires, renamed_alike}
 use Rattle.pq_match.proofs.SearchPlaces.{last_place_at, place_upto_last, place_is_chosen, passed_not_chosen, StandsAt, chosen_stands, not_chosen_passed}
 
--- Places at which a renamed pattern stands are full.
-module _ (n : ℕ) (gates pattern : List Gate) (wires places : List ℕ) (circuit : IsCircuit n pattern) (are : AreWires n wires)
-  (matches : IsMatch gates pattern wires places) (free : AreFree gates places) where
+-- At places where a renamed pattern stands,
+module _ (gates pattern : List Gate) (wires places : List ℕ) (matches : IsMatch gates pattern wires places) where
   pub match_whole : length places ≡ length pattern
   match_whole = sym (length-map places (gate_at gates)) ∙ (ap length matches.chosen ∙ length-map pattern (renamed wires))
 
-  match_at : (s : ℕ) → s < length pattern → gate_at gates (get_or places s 0) ≡ renamed wires (gate_at pattern s)
+  pub match_at : (s : ℕ) → s < length pattern → gate_at gates (get_or places s 0) ≡ renamed wires (gate_at pattern s)
   match_at s below =
       let e : length places ≡ length pattern = match_whole in
       sym (get_or-map (gate_at gates) places s 0 (H 0) (omega arith)) ∙
       (ap (λ (gs : List Gate). get_or gs s (H 0)) matches.chosen ∙ get_or-map (renamed wires) pattern s (H 0) (H 0) below)
 
+-- these places are full.
+module _ (n : ℕ) (gates pattern : List Gate) (wires places : List ℕ) (circuit : IsCircuit n pattern) (are : AreWires n wires)
+  (matches : IsMatch gates pattern wires places) (free : AreFree gates places) where
+  whole : length places ≡ length pattern
+  whole = match_whole gates pattern wires places matches
+
+  at : (s : ℕ) → s < length pattern → gate_at gates (get_or places s 0) ≡ renamed wires (gate_at pattern s)
+  at = match_at gates pattern wires places matches
+
   match_fitting : (s : ℕ) → s < length pattern → IsFitting gates pattern places s
   match_fitting s below = record {
-    kind = ap kind_of (match_at s below) ∙ kind-renamed wires (gate_at pattern s);
+    kind = ap kind_of (at s below) ∙ kind-renamed wires (gate_at pattern s);
     wires = λ t upto.
         (let t_below : t < length pattern = omega arith in
-        subst (λ (g : Gate). AreAlike (gate_at pattern t) (gate_at pattern s) g (gate_at gates (get_or places s 0))) (sym (match_at t t_below))
-        (subst (λ (h : Gate). AreAlike (gate_at pattern t) (gate_at pattern s) (renamed wires (gate_at pattern t)) h) (sym (match_at s below))
+        subst (λ (g : Gate). AreAlike (gate_at pattern t) (gate_at pattern s) g (gate_at gates (get_or places s 0))) (sym (at t t_below))
+        (subst (λ (h : Gate). AreAlike (gate_at pattern t) (gate_at pattern s) (renamed wires (gate_at pattern t)) h) (sym (at s below))
         (renamed_alike n wires are (gate_at pattern t) (gate_at pattern s) (gate_on_wires n pattern circuit t t_below) (gate_on_wires n pattern circuit s below))));
   }
 
   pub match_full : (end : ℕ) → last_place places < end → IsFull gates pattern end places
   match_full end ends = record {
-    rising = λ s t less below. matches.rising s t 0 less (let e : length places ≡ length pattern = match_whole in omega arith);
+    rising = λ s t less below. matches.rising s t 0 less (let e : length places ≡ length pattern = whole in omega arith);
     inside = λ s below.
-        (let e : length places ≡ length pattern = match_whole in
+        (let e : length places ≡ length pattern = whole in
         let upto : get_or places s 0 ≤ last_place places = place_upto_last places matches.rising s (omega arith) in omega arith);
     fitting = match_fitting;
     clear = λ t t_below s p below passed more less.
-        (let e : length places ≡ length pattern = match_whole in
+        (let e : length places ≡ length pattern = whole in
         let upto : get_or places t 0 ≤ last_place places = place_upto_last places matches.rising t (omega arith) in
         free (get_or places s 0) p (place_is_chosen places s (omega arith))
         (passed_not_chosen places p (subst (λ (k : ℕ). IsPassed places k p) (sym e) passed)) more (omega arith));

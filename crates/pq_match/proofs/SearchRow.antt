@@ -28,7 +28,7 @@ module _ (rules : List RowView) (gates : List Gate) (number start end : ℕ) (ro
 
   other_whole : (other : RedexView) → IsRedex rules gates other → other.row ≡ number → length other.places ≡ length row.pattern
   other_whole other is same =
-      match_whole row.wires gates row.pattern other.wires other.places sound.same.left (other_wires other is same) (other_matches other is same) is.free
+      match_whole gates row.pattern other.wires other.places (other_matches other is same)
 
   other_full : (other : RedexView) → IsRedex rules gates other → IsOfRow number start end other → IsFull gates row.pattern end other.places
   other_full other is of =
