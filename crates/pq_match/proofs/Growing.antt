@@ -6,7 +6,7 @@ use Rattle.pq_gate.specs.declared.gate.Gate.{Gate}
 use Rattle.pq_gate.specs.Commuting.{Commutes}
 use Rattle.pq_rules.specs.Kinds.{kind_of}
 use Rattle.pq_match.specs.Redex.{gate_at}
-use Rattle.pq_match.specs.Search.{AreAlike, IsFitting, IsPassed, AreClear, IsGrown, IsFull, Begins, IsBefore, AreEight, IsFirstFull, FindsFull}
+use Rattle.pq_match.specs.Search.{AreAlike, IsFitting, IsPassed, AreClear, IsGrown, IsFull, Begins, IsBefore, AreEight, IsFirstFull, HasNoFull}
 
 -- Putting a place behind the first `count` of eight.
 module _ (places : List ℕ) (count place : ℕ) (eight : length places ≡ 8) (room : count < 8) where
@@ -130,9 +130,10 @@ module _ (gates pattern : List Gate) (end : ℕ) (places : List ℕ) (count plac
       commuting t t_below s p s_below passed more less _ (inr (inr s_more)) = absurd (omega arith)
 
   -- where the gate doesn't fit, nothing begins with it
-  pub nothing_fits : count < length pattern → ¬ IsFitting gates pattern places count → FindsFull gates pattern end places (count + 1) None
-  nothing_fits next misfit other full begins =
-      misfit (fitting_same gates pattern other places count (λ s upto. begins s (omega arith)) (full.fitting count next))
+  pub nothing_fits : count < length pattern → ¬ IsFitting gates pattern places count → HasNoFull gates pattern end places (count + 1)
+  nothing_fits next misfit = record {
+    none = λ other full begins. misfit (fitting_same gates pattern other places count (λ s upto. begins s (omega arith)) (full.fitting count next));
+  }
 
   -- grown places that are all of the pattern's are the only ones that begin with them
   pub grown_is_full : count + 1 ≡ length pattern → IsGrown gates pattern end places (count + 1) → AreEight places (count + 1) →

@@ -3,7 +3,7 @@ use Rattle.std.proofs.lemmas.Bool.{cases_order}
 use Rattle.pq_gate.specs.declared.gate.Gate.{Gate}
 use Rattle.pq_gate.specs.Commuting.{Commutes}
 use Rattle.pq_match.specs.Redex.{gate_at}
-use Rattle.pq_match.specs.Search.{IsFitting, IsPassed, AreClear, IsGrown, IsFull, Begins, IsBefore, AreEight, IsFirstFull, FindsFull}
+use Rattle.pq_match.specs.Search.{IsFitting, IsPassed, AreClear, IsGrown, IsFull, Begins, IsBefore, AreEight, IsFirstFull, HasNoFull}
 use Rattle.pq_match.proofs.Growing.{begins_front, begins_at, begins_more}
 
 -- The gates up to a place were passed over: they commute with the chosen ones, and no full match has its next gate there.
@@ -38,15 +38,15 @@ module _ (gates pattern : List Gate) (end : ℕ) (places : List ℕ) (count plac
 
   -- nothing that begins with this place next leaves the place behind
   pub behind : length places ≡ 8 → count < 8 → IsWalked gates pattern end places count place →
-      FindsFull gates pattern end (set places count place) (count + 1) None →
+      HasNoFull gates pattern end (set places count place) (count + 1) →
       (other : List ℕ) → IsFull gates pattern end other → Begins places count other → place < get_or other count 0
   behind eight room walked none other full begins =
-      let ne : get_or other count 0 ≢ place = λ same. none other full (begins_more places count place eight room other begins same) in
+      let ne : get_or other count 0 ≢ place = λ same. none.none other full (begins_more places count place eight room other begins same) in
       let low : place ≤ get_or other count 0 = walked.none other full begins in
       omega arith
 
   pub walk_goes_on : length places ≡ 8 → count < 8 → IsWalked gates pattern end places count place →
-      FindsFull gates pattern end (set places count place) (count + 1) None → CanPass gates places count place →
+      HasNoFull gates pattern end (set places count place) (count + 1) → CanPass gates places count place →
       IsWalked gates pattern end places count (place + 1)
   walk_goes_on eight room walked none passes = record {
     above = λ s below. (let low : get_or places s 0 < place = walked.above s below in omega arith);
@@ -61,12 +61,12 @@ module _ (gates pattern : List Gate) (end : ℕ) (places : List ℕ) (count plac
       clear s p below passed more less (inr (inr higher)) = absurd (omega arith)
 
   pub walk_is_stuck : length places ≡ 8 → count < 8 → count < length pattern → IsWalked gates pattern end places count place →
-      FindsFull gates pattern end (set places count place) (count + 1) None → ¬ CanPass gates places count place →
-      FindsFull gates pattern end places count None
-  walk_is_stuck eight room next walked none stuck other full begins = stuck passes
+      HasNoFull gates pattern end (set places count place) (count + 1) → ¬ CanPass gates places count place →
+      HasNoFull gates pattern end places count
+  walk_is_stuck eight room next walked none stuck = record { none = λ other full begins. stuck (passes other full begins) }
     where
-      passed : IsPassed other (length pattern) place
-      passed t below same = by (cases_order t count)
+      passed : (other : List ℕ) → IsFull gates pattern end other → Begins places count other → IsPassed other (length pattern) place
+      passed other full begins t below same = by (cases_order t count)
         where
           high : place < get_or other count 0
           high = behind eight room walked none other full begins
@@ -82,19 +82,21 @@ module _ (gates pattern : List Gate) (end : ℕ) (places : List ℕ) (count plac
               let rise : get_or other count 0 < get_or other t 0 = full.rising count t more below in
               let h : place < get_or other count 0 = high in omega arith
 
-      passes : CanPass gates places count place
-      passes s below =
+      passes : (other : List ℕ) → IsFull gates pattern end other → Begins places count other → CanPass gates places count place
+      passes other full begins s below =
           let e : get_or other s 0 ≡ get_or places s 0 = begins s below in
           let low : get_or places s 0 < place = walked.above s below in
           let high : place < get_or other count 0 = behind eight room walked none other full begins in
           subst (λ (q : ℕ). Commutes (gate_at gates q) (gate_at gates place)) e
-          (full.clear count next s place (omega arith) passed (omega arith) high)
+          (full.clear count next s place (omega arith) (passed other full begins) (omega arith) high)
 
-  pub walk_ends : count < length pattern → end ≤ place → IsWalked gates pattern end places count place → FindsFull gates pattern end places count None
-  walk_ends next ended walked other full begins =
-      let low : place ≤ get_or other count 0 = walked.none other full begins in
-      let inside : get_or other count 0 < end = full.inside count next in
-      omega arith
+  pub walk_ends : count < length pattern → end ≤ place → IsWalked gates pattern end places count place → HasNoFull gates pattern end places count
+  walk_ends next ended walked = record {
+    none = λ other full begins.
+        (let low : place ≤ get_or other count 0 = walked.none other full begins in
+        let inside : get_or other count 0 < end = full.inside count next in
+        omega arith);
+  }
 
   pub walk_finds : length places ≡ 8 → count < 8 → count < length pattern → IsWalked gates pattern end places count place → (found : List ℕ) →
       IsFirstFull gates pattern end (set places count place) (count + 1) found → IsFirstFull gates pattern end places count found

@@ -8,7 +8,7 @@ use Rattle.pq_match.specs.declared.redex.Redex.{Redex}
 use Rattle.pq_match.specs.Redex.{RedexView, IsRedex, gate_at, last_place}
 use Rattle.pq_match.specs.First.{Precedes, key}
 use Rattle.pq_match.specs.Found.{seen}
-use Rattle.pq_match.specs.Search.{IsFirstAmong, FindsAmong, IsFrom, IsOfRow}
+use Rattle.pq_match.specs.Search.{IsFirstAmong, HasNoneAmong, IsFrom, IsOfRow}
 use Rattle.pq_match.proofs.SearchGates.{kind-renamed}
 use Rattle.pq_match.proofs.SearchMatch.{match_whole, match_at}
 use Rattle.pq_match.proofs.SearchNumbers.{begins_by_kind, numbers_rise, number_stands}
@@ -16,6 +16,7 @@ use Rattle.pq_match.proofs.SearchPlaces.{StandsAt}
 
 -- none of the rows with the first of these numbers has a redex here
 pub record AreTried (rules : List RowView) (gates : List Gate) (start end : ℕ) (numbers : List ℕ) (index : ℕ) : Type 0 where
+  pub are : numbers ≡ numbers_starting (kind_of (gate_at gates start)) 1 rules
   pub none : (k : ℕ) → k < index → (other : RedexView) → IsRedex rules gates other → ¬ IsOfRow (get_or numbers k 0) start end other
 
 module _ (rules : List RowView) (gates : List Gate) (start end : ℕ) where
@@ -36,54 +37,62 @@ module _ (rules : List RowView) (gates : List Gate) (start end : ℕ) where
       (ap kind_of (sym (match_at gates is.row.pattern other.wires other.places is.matches 0 some)) ∙
       ap (λ (p : ℕ). kind_of (gate_at gates p)) at)))
 
-module _ (rules : List RowView) (gates : List Gate) (start end : ℕ) (numbers : List ℕ) (index : ℕ) (are : numbers ≡ numbers_starting (kind_of (gate_at gates start)) 1 rules) where
-  stands_in : (other : RedexView) → IsRedex rules gates other → get_or other.places 0 0 ≡ start → StandsAt numbers other.row
-  stands_in other is at = subst (λ (ns : List ℕ). StandsAt ns other.row) (sym are) (number_of rules gates start end other is at)
+-- a redex that begins here is of a row with one of the numbers
+stands_in : {rules : List RowView} {gates : List Gate} {start end : ℕ} {numbers : List ℕ} {index : ℕ} → AreTried rules gates start end numbers index →
+    (other : RedexView) → IsRedex rules gates other → get_or other.places 0 0 ≡ start → StandsAt numbers other.row
+stands_in {rules} {gates} {start} {end} tried other is at = subst (λ (ns : List ℕ). StandsAt ns other.row) (sym tried.are) (number_of rules gates start end other is at)
 
-  pub tried_more : AreTried rules gates start end numbers index → FindsAmong (IsOfRow (get_or numbers index 0) start end) rules gates None →
-      AreTried rules gates start end numbers (index + 1)
-  tried_more tried none = record { none = λ k below. by k below (cases_order k index) }
-    where
-      by : (k : ℕ) → k < index + 1 → (k ≡ index) ⊎ ((k < index) ⊎ (index < k)) → (other : RedexView) → IsRedex rules gates other → ¬ IsOfRow (get_or numbers k 0) start end other
-      by k below (inl same) = subst (λ (i : ℕ). (other : RedexView) → IsRedex rules gates other → ¬ IsOfRow (get_or numbers i 0) start end other) (sym same) none
-      by k below (inr (inl less)) = tried.none k less
-      by k below (inr (inr more)) = absurd (omega arith)
+pub none_tried : (rules : List RowView) (gates : List Gate) (start end : ℕ) (numbers : List ℕ) → numbers ≡ numbers_starting (kind_of (gate_at gates start)) 1 rules →
+    AreTried rules gates start end numbers 0
+none_tried rules gates start end numbers are = record { are = are; none = λ k below. absurd (omega arith) }
 
-  pub tried_all : length numbers ≤ index → AreTried rules gates start end numbers index → FindsAmong (IsFrom start end) rules gates None
-  tried_all all tried other is from =
-      let stands = stands_in other is from.0 in
+pub tried_more : {rules : List RowView} {gates : List Gate} {start end : ℕ} {numbers : List ℕ} {index : ℕ} → AreTried rules gates start end numbers index →
+    HasNoneAmong (IsOfRow (get_or numbers index 0) start end) rules gates → AreTried rules gates start end numbers (index + 1)
+tried_more {rules} {gates} {start} {end} {numbers} {index} tried none = record { are = tried.are; none = λ k below. by k below (cases_order k index) }
+  where
+    by : (k : ℕ) → k < index + 1 → (k ≡ index) ⊎ ((k < index) ⊎ (index < k)) → (other : RedexView) → IsRedex rules gates other → ¬ IsOfRow (get_or numbers k 0) start end other
+    by k below (inl same) = subst (λ (i : ℕ). (other : RedexView) → IsRedex rules gates other → ¬ IsOfRow (get_or numbers i 0) start end other) (sym same) none.none
+    by k below (inr (inl less)) = tried.none k less
+    by k below (inr (inr more)) = absurd (omega arith)
+
+pub tried_all : {rules : List RowView} {gates : List Gate} {start end : ℕ} {numbers : List ℕ} {index : ℕ} → AreTried rules gates start end numbers index →
+    length numbers ≤ index → HasNoneAmong (IsFrom start end) rules gates
+tried_all {rules} {gates} {start} {end} {numbers} {index} tried all = record {
+  none = λ other is from.
+      (let stands = stands_in tried other is from.0 in
       let below : stands.at < length numbers = stands.below in
-      tried.none stands.at (omega arith) other is (sym stands.is, from.0, from.1)
+      tried.none stands.at (omega arith) other is (sym stands.is, from.0, from.1));
+}
 
-  pub tried_first : index < length numbers → AreTried rules gates start end numbers index → (redex : Redex) →
-      IsFirstAmong (IsOfRow (get_or numbers index 0) start end) rules gates redex → IsFirstAmong (IsFrom start end) rules gates redex
-  tried_first inside tried redex first = record {
-    wires = first.wires;
-    is = first.is;
-    among = (first.among.1, first.among.2);
-    first = λ other is from before. (let stands = stands_in other is from.0 in by other is from before stands (cases_order stands.at index));
-    padded = first.padded;
-  }
-    where
-      rise : (i j : ℕ) → i < j → j < length numbers → get_or numbers i 0 < get_or numbers j 0
-      rise i j less below =
-          subst (λ (ns : List ℕ). (i j : ℕ) → i < j → j < length ns → get_or ns i 0 < get_or ns j 0) (sym are)
-          (λ i j less below. numbers_rise (kind_of (gate_at gates start)) 1 rules i j 0 less below) i j less below
+pub tried_first : {rules : List RowView} {gates : List Gate} {start end : ℕ} {numbers : List ℕ} {index : ℕ} {redex : Redex} → AreTried rules gates start end numbers index →
+    index < length numbers → IsFirstAmong (IsOfRow (get_or numbers index 0) start end) rules gates redex → IsFirstAmong (IsFrom start end) rules gates redex
+tried_first {rules} {gates} {start} {end} {numbers} {index} {redex} tried inside first = record {
+  wires = first.wires;
+  is = first.is;
+  among = (first.among.1, first.among.2);
+  first = λ other is from before. (let stands = stands_in tried other is from.0 in by other is from before stands (cases_order stands.at index));
+  padded = first.padded;
+}
+  where
+    rise : (i j : ℕ) → i < j → j < length numbers → get_or numbers i 0 < get_or numbers j 0
+    rise i j less below =
+        subst (λ (ns : List ℕ). (i j : ℕ) → i < j → j < length ns → get_or ns i 0 < get_or ns j 0) (sym tried.are)
+        (λ i j less below. numbers_rise (kind_of (gate_at gates start)) 1 rules i j 0 less below) i j less below
 
-      later : (other : RedexView) → IsFrom start end other → (get_or numbers index 0 < other.row) →
-          Precedes (key other) (key (seen redex first.wires)) → ⊥
-      later other from more (inl less) =
-          let a : get_or (seen redex first.wires).places 0 0 ≡ start = first.among.1 in
-          let b : get_or other.places 0 0 ≡ start = from.0 in
-          omega arith
-      later other from more (inr (same, inl less)) = (let r : redex.row ≡ get_or numbers index 0 = first.among.0 in omega arith)
-      later other from more (inr (same, inr (row_same, before))) = (let r : redex.row ≡ get_or numbers index 0 = first.among.0 in omega arith)
+    later : (other : RedexView) → IsFrom start end other → (get_or numbers index 0 < other.row) →
+        Precedes (key other) (key (seen redex first.wires)) → ⊥
+    later other from more (inl less) =
+        let a : get_or (seen redex first.wires).places 0 0 ≡ start = first.among.1 in
+        let b : get_or other.places 0 0 ≡ start = from.0 in
+        omega arith
+    later other from more (inr (same, inl less)) = (let r : redex.row ≡ get_or numbers index 0 = first.among.0 in omega arith)
+    later other from more (inr (same, inr (row_same, before))) = (let r : redex.row ≡ get_or numbers index 0 = first.among.0 in omega arith)
 
-      by : (other : RedexView) → IsRedex rules gates other → IsFrom start end other → Precedes (key other) (key (seen redex first.wires)) →
-          (stands : StandsAt numbers other.row) → (stands.at ≡ index) ⊎ ((stands.at < index) ⊎ (index < stands.at)) → ⊥
-      by other is from before stands (inl same) =
-          first.first other is (sym stands.is ∙ ap (λ (k : ℕ). get_or numbers k 0) same, from.0, from.1) before
-      by other is from before stands (inr (inl less)) = tried.none stands.at less other is (sym stands.is, from.0, from.1)
-      by other is from before stands (inr (inr more)) =
-          later other from
-          (subst (λ (n : ℕ). get_or numbers index 0 < n) stands.is (rise index stands.at more stands.below)) before
+    by : (other : RedexView) → IsRedex rules gates other → IsFrom start end other → Precedes (key other) (key (seen redex first.wires)) →
+        (stands : StandsAt numbers other.row) → (stands.at ≡ index) ⊎ ((stands.at < index) ⊎ (index < stands.at)) → ⊥
+    by other is from before stands (inl same) =
+        first.first other is (sym stands.is ∙ ap (λ (k : ℕ). get_or numbers k 0) same, from.0, from.1) before
+    by other is from before stands (inr (inl less)) = tried.none stands.at less other is (sym stands.is, from.0, from.1)
+    by other is from before stands (inr (inr more)) =
+        later other from
+        (subst (λ (n : ℕ). get_or numbers index 0 < n) stands.is (rise index stands.at more stands.below)) before

@@ -9,7 +9,7 @@ use Rattle.pq_match.specs.declared.redex.Redex.{Redex}
 use Rattle.pq_match.specs.Redex.{RedexView, IsRedex, IsMatch, AreWires, last_place}
 use Rattle.pq_match.specs.First.{Precedes, key}
 use Rattle.pq_match.specs.Found.{seen, IsPadded}
-use Rattle.pq_match.specs.Search.{IsFull, Begins, IsFirstFull, FindsFull, IsFirstAmong, IsOfRow}
+use Rattle.pq_match.specs.Search.{IsFull, Begins, IsFirstFull, HasNoFull, HasNoneAmong, IsFirstAmong, IsOfRow}
 use Rattle.pq_match.proofs.Growing.{grown_same}
 use Rattle.pq_match.proofs.SearchChoice.{IsChoice}
 use Rattle.pq_match.proofs.SearchMatch.{GoesWith, match_whole, match_full, full_choice, full_apart, full_matches, full_free}
@@ -38,9 +38,8 @@ module _ (rules : List RowView) (gates : List Gate) (number start end : ℕ) (ro
   begins_at_start front at other of zero below = of.1 ∙ sym at
   begins_at_start front at other of (suc s) below = absurd (omega arith)
 
-  pub none_of_row : (front : List ℕ) → get_or front 0 0 ≡ start → FindsFull gates row.pattern end front 1 None →
-      (other : RedexView) → IsRedex rules gates other → ¬ IsOfRow number start end other
-  none_of_row front at none other is of = none other.places (other_full other is of) (begins_at_start front at other of)
+  pub none_of_row : (front : List ℕ) → get_or front 0 0 ≡ start → HasNoFull gates row.pattern end front 1 → HasNoneAmong (IsOfRow number start end) rules gates
+  none_of_row front at none = record { none = λ other is of. none.none other.places (other_full other is of) (begins_at_start front at other of) }
 
   pub first_of_row : (front : List ℕ) → get_or front 0 0 ≡ start → end ≤ length gates → (places : List ℕ) → IsFirstFull gates row.pattern end front 1 places →
       IsFirstAmong (IsOfRow number start end) rules gates (record { row = number; count = length row.pattern; places = places })

@@ -6,7 +6,7 @@ use Rattle.pq_match.specs.declared.redex.Redex.{Redex}
 use Rattle.pq_match.specs.Redex.{RedexView, IsRedex, IsWithin, last_place}
 use Rattle.pq_match.specs.First.{Precedes, key, HasNoneWithin}
 use Rattle.pq_match.specs.Found.{seen, IsFirstFound, FindsWithin}
-use Rattle.pq_match.specs.Search.{IsFirstAmong, FindsAmong, IsFrom}
+use Rattle.pq_match.specs.Search.{IsFirstAmong, HasNoneAmong, IsFrom}
 use Rattle.pq_match.proofs.SearchPlaces.{last_place_at, place_upto_last}
 
 -- no redex within the span begins before this place
@@ -37,52 +37,57 @@ module _ (rules : List RowView) (gates : List Gate) (span start end : ℕ) where
       let less : last_place other.places < get_or other.places 0 0 + span = within in
       (at, ends.far (last_place other.places) (last_inside other is) (omega arith))
 
-  pub none_before_more : IsEnd gates span start end → NoneBefore rules gates span start → FindsAmong (IsFrom start end) rules gates None → NoneBefore rules gates span (start + 1)
-  none_before_more ends before none = record {
-    none = λ other is within. by other is within (before.none other is within) (cases_order (get_or other.places 0 0) start);
+-- of this start there is none either
+pub none_before_more : {rules : List RowView} {gates : List Gate} {span start : ℕ} (end : ℕ) → IsEnd gates span start end → NoneBefore rules gates span start →
+    HasNoneAmong (IsFrom start end) rules gates → NoneBefore rules gates span (start + 1)
+none_before_more {rules} {gates} {span} {start} end ends before none = record {
+  none = λ other is within. by other is within (before.none other is within) (cases_order (get_or other.places 0 0) start);
+}
+  where
+    by : (other : RedexView) → IsRedex rules gates other → IsWithin span other → start ≤ get_or other.places 0 0 →
+        (get_or other.places 0 0 ≡ start) ⊎ ((get_or other.places 0 0 < start) ⊎ (start < get_or other.places 0 0)) → start + 1 ≤ get_or other.places 0 0
+    by other is within upto (inl same) = absurd (none.none other is (from_within rules gates span start end ends other is within same))
+    by other is within upto (inr (inl less)) = absurd (omega arith)
+    by other is within upto (inr (inr more)) = omega arith
+
+pub none_before_first : (rules : List RowView) (gates : List Gate) (span : ℕ) → NoneBefore rules gates span 0
+none_before_first rules gates span = record { none = λ other is within. omega arith }
+
+pub none_at_all : {rules : List RowView} {gates : List Gate} {span start : ℕ} → NoneBefore rules gates span start → length gates ≤ start → HasNoneWithin rules gates span
+none_at_all {rules} {gates} {span} {start} before all other is within =
+    let upto : start ≤ get_or other.places 0 0 = before.none other is within in
+    let inside : get_or other.places 0 0 < length gates = is.matches.inside 0 0 is.some in
+    omega arith
+
+pub first_from_here : {rules : List RowView} {gates : List Gate} {span start : ℕ} {redex : Redex} (end : ℕ) → IsEnd gates span start end → NoneBefore rules gates span start →
+    IsFirstAmong (IsFrom start end) rules gates redex → IsFirstFound rules gates span redex
+first_from_here {rules} {gates} {span} {start} {redex} end ends before first = record {
+  wires = first.wires;
+  first = record {
+    is = first.is;
+    within = within;
+    first = λ other is other_within precedes. by other is other_within precedes (cases_order (get_or other.places 0 0) start);
+  };
+  padded = first.padded;
   }
-    where
-      by : (other : RedexView) → IsRedex rules gates other → IsWithin span other → start ≤ get_or other.places 0 0 →
-          (get_or other.places 0 0 ≡ start) ⊎ ((get_or other.places 0 0 < start) ⊎ (start < get_or other.places 0 0)) → start + 1 ≤ get_or other.places 0 0
-      by other is within upto (inl same) = absurd (none other is (from_within ends other is within same))
-      by other is within upto (inr (inl less)) = absurd (omega arith)
-      by other is within upto (inr (inr more)) = omega arith
+  where
+    at : get_or (seen redex first.wires).places 0 0 ≡ start
+    at = first.among.0
 
-  pub none_at_all : length gates ≤ start → NoneBefore rules gates span start → HasNoneWithin rules gates span
-  none_at_all all before other is within =
-      let upto : start ≤ get_or other.places 0 0 = before.none other is within in
-      let inside : get_or other.places 0 0 < length gates = is.matches.inside 0 0 is.some in
-      omega arith
+    within : IsWithin span (seen redex first.wires)
+    within =
+        let a : get_or (seen redex first.wires).places 0 0 ≡ start = first.among.0 in
+        let l : last_place (seen redex first.wires).places < end = first.among.1 in
+        let w : end ≤ start + span = ends.within in
+        omega arith
 
-  pub first_from_here : IsEnd gates span start end → NoneBefore rules gates span start → (redex : Redex) → IsFirstAmong (IsFrom start end) rules gates redex →
-      IsFirstFound rules gates span redex
-  first_from_here ends before redex first = record {
-    wires = first.wires;
-    first = record {
-      is = first.is;
-      within = within;
-      first = λ other is other_within precedes. by other is other_within precedes (cases_order (get_or other.places 0 0) start);
-    };
-    padded = first.padded;
-  }
-    where
-      at : get_or (seen redex first.wires).places 0 0 ≡ start
-      at = first.among.0
+    after : (other : RedexView) → start < get_or other.places 0 0 → Precedes (key other) (key (seen redex first.wires)) → ⊥
+    after other more (inl less) = (let a : get_or (seen redex first.wires).places 0 0 ≡ start = first.among.0 in omega arith)
+    after other more (inr (same, later)) = (let a : get_or (seen redex first.wires).places 0 0 ≡ start = first.among.0 in omega arith)
 
-      within : IsWithin span (seen redex first.wires)
-      within =
-          let a : get_or (seen redex first.wires).places 0 0 ≡ start = first.among.0 in
-          let l : last_place (seen redex first.wires).places < end = first.among.1 in
-          let w : end ≤ start + span = ends.within in
-          omega arith
-
-      after : (other : RedexView) → start < get_or other.places 0 0 → Precedes (key other) (key (seen redex first.wires)) → ⊥
-      after other more (inl less) = (let a : get_or (seen redex first.wires).places 0 0 ≡ start = first.among.0 in omega arith)
-      after other more (inr (same, later)) = (let a : get_or (seen redex first.wires).places 0 0 ≡ start = first.among.0 in omega arith)
-
-      by : (other : RedexView) → IsRedex rules gates other → IsWithin span other → Precedes (key other) (key (seen redex first.wires)) →
-          (get_or other.places 0 0 ≡ start) ⊎ ((get_or other.places 0 0 < start) ⊎ (start < get_or other.places 0 0)) → ⊥
-      by other is other_within precedes (inl same) = first.first other is (from_within ends other is other_within same) precedes
-      by other is other_within precedes (inr (inl less)) =
-          let upto : start ≤ get_or other.places 0 0 = before.none other is other_within in omega arith
-      by other is other_within precedes (inr (inr more)) = after other more precedes
+    by : (other : RedexView) → IsRedex rules gates other → IsWithin span other → Precedes (key other) (key (seen redex first.wires)) →
+        (get_or other.places 0 0 ≡ start) ⊎ ((get_or other.places 0 0 < start) ⊎ (start < get_or other.places 0 0)) → ⊥
+    by other is other_within precedes (inl same) = first.first other is (from_within rules gates span start end ends other is other_within same) precedes
+    by other is other_within precedes (inr (inl less)) =
+        let upto : start ≤ get_or other.places 0 0 = before.none other is other_within in omega arith
+    by other is other_within precedes (inr (inr more)) = after other more precedes

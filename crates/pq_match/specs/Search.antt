@@ -75,10 +75,14 @@ pub record IsFirstFull (gates pattern : List Gate) (end : ℕ) (front : List ℕ
   pub first : (other : List ℕ) → IsFull gates pattern end other → Begins front count other → ¬ IsBefore (length pattern) other places
   pub eight : AreEight places (length pattern)
 
+-- no places of all the pattern's gates begin in this way
+pub record HasNoFull (gates pattern : List Gate) (end : ℕ) (front : List ℕ) (count : ℕ) : Type 0 where
+  pub none : (other : List ℕ) → IsFull gates pattern end other → ¬ Begins front count other
+
 -- the least places of all the pattern's gates that begin in this way, or none
 abbrev pub FindsFull : List Gate → List Gate → ℕ → List ℕ → ℕ → Option (List ℕ) → Type 0
 FindsFull gates pattern end front count (Some places) = IsFirstFull gates pattern end front count places
-FindsFull gates pattern end front count None = (other : List ℕ) → IsFull gates pattern end other → ¬ Begins front count other
+FindsFull gates pattern end front count None = HasNoFull gates pattern end front count
 
 -- the first of the redexes with a property
 pub record IsFirstAmong (P : RedexView → Type 0) (rules : List RowView) (gates : List Gate) (redex : Redex) : Type 0 where
@@ -88,10 +92,14 @@ pub record IsFirstAmong (P : RedexView → Type 0) (rules : List RowView) (gates
   pub first : (other : RedexView) → IsRedex rules gates other → P other → ¬ Precedes (key other) (key (seen redex wires))
   pub padded : IsPadded redex
 
+-- no redex has a property
+pub record HasNoneAmong (P : RedexView → Type 0) (rules : List RowView) (gates : List Gate) : Type 0 where
+  pub none : (other : RedexView) → IsRedex rules gates other → ¬ P other
+
 -- the first of the redexes with a property, or None where there is none
 abbrev pub FindsAmong : (RedexView → Type 0) → List RowView → List Gate → Option Redex → Type 0
 FindsAmong P rules gates (Some redex) = IsFirstAmong P rules gates redex
-FindsAmong P rules gates None = (other : RedexView) → IsRedex rules gates other → ¬ P other
+FindsAmong P rules gates None = HasNoneAmong P rules gates
 
 -- its first place is the start, and all its places lie before the end
 abbrev pub IsFrom : ℕ → ℕ → RedexView → Type 0

@@ -22,6 +22,7 @@ pub fn find_first(seg: &Seg, rules: &Rules) -> Option<Redex>
 
 /// The first redex of at most 1,048,576 gates whose last place minus its first place is less than
 /// `span`. None exactly where there is none. It takes no memory.
+#[tactic(auto, using(crate::proofs::SearchWithin::none_before_first, crate::proofs::SearchWithin::none_before_more, crate::proofs::SearchWithin::none_at_all, crate::proofs::SearchWithin::first_from_here))]
 pub fn find_within(gates: &[Gate], rules: &Rules, span: u32) -> Option<Redex>
     requires { length gates.now ≤ 1048576 }
     ensures { FindsWithin rules.now gates.now span result }
@@ -39,6 +40,7 @@ pub fn find_within(gates: &[Gate], rules: &Rules, span: u32) -> Option<Redex>
     None
 }
 
+#[tactic(auto, using(crate::proofs::SearchFrom::none_tried, crate::proofs::SearchFrom::tried_more, crate::proofs::SearchFrom::tried_first))]
 // the first redex whose first place is the start and whose places all lie before the end
 fn find_from(gates: &[Gate], rules: &Rules, start: u32, end: u32) -> Option<Redex>
     requires few { length gates.now ≤ 1048576 }

@@ -1,15 +1,14 @@
 use Rattle.std.proofs.Common.{◌≡◌, ℕ, List, [], ◌∷◌, length, Option, Some, None, refl, sym, ap, subst, ◌∙◌}
 use Rattle.pq_gate.specs.declared.gate.Gate.{Gate}
 use Rattle.pq_rules.specs.Kinds.{row_numbered}
-use Rattle.pq_match.specs.Search.{FindsFull, IsFirstFull, IsFirstAmong, IsOfRow}
+use Rattle.pq_match.specs.Search.{HasNoFull, IsFirstFull, IsFirstAmong, IsOfRow}
 use Rattle.pq_match.proofs.SearchRow.{none_of_row, first_of_row}
 use Rattle.pq_match.proofs.search.find_row.Goals as goal
 
 pub returns-in_default-extend_at : goal.returns-in_default-extend_at
 returns-in_default-extend_at c =
-    let none = subst (λ (r : Option (List ℕ)). FindsFull c.args.gates.now c.pattern-pattern.result.now c.args.end (c.args.start ∷ 0 ∷ 0 ∷ 0 ∷ 0 ∷ 0 ∷ 0 ∷ 0 ∷ []) 1 r) c.in_default-extend_at.is c.extend_at.ensures in
     none_of_row c.args.rules.now c.args.gates.now c.args.number c.args.start c.args.end c.in-Some.row.now (sym c.in-Some.ensures.row) c.in-Some.ensures.sound
-    (c.args.start ∷ 0 ∷ 0 ∷ 0 ∷ 0 ∷ 0 ∷ 0 ∷ 0 ∷ []) refl (subst (λ (p : List Gate). FindsFull c.args.gates.now p c.args.end (c.args.start ∷ 0 ∷ 0 ∷ 0 ∷ 0 ∷ 0 ∷ 0 ∷ 0 ∷ []) 1 None) c.pattern-pattern.ensures.pattern none)
+    (c.args.start ∷ 0 ∷ 0 ∷ 0 ∷ 0 ∷ 0 ∷ 0 ∷ 0 ∷ []) refl (subst (λ (p : List Gate). HasNoFull c.args.gates.now p c.args.end (c.args.start ∷ 0 ∷ 0 ∷ 0 ∷ 0 ∷ 0 ∷ 0 ∷ 0 ∷ []) 1) c.pattern-pattern.ensures.pattern c.in_default-extend_at.ensures)
 
 pub returns : goal.returns
 returns c =
