@@ -7,3 +7,14 @@ pub mod Rewriting
 pub mod RewritingLists
 pub mod RewritingPlaces
 pub mod RewritingWires
+pub mod Growing
+pub mod GrowingWalk
+pub mod SearchWires
+pub mod SearchChoice
+pub mod SearchGates
+pub mod SearchPlaces
+pub mod SearchMatch
+pub mod SearchRow
+pub mod SearchNumbers
+pub mod SearchFrom
+pub mod SearchWithin

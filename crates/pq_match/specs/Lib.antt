@@ -9,3 +9,4 @@ pub mod First
 pub mod Rewrite
 pub mod Found
 pub mod Wires
+pub mod Search
