@@ -1,9 +1,8 @@
 -- What rewriting in place leaves is the rewritten list.
-use Rattle.std.proofs.Common.{◌≡◌, ℕ, ◌+◌, ◌-◌, ◌<◌, ◌≤◌, List, ◌++◌, length, map, get_or, take, drop, sym, ap, ◌∙◌, subst, arith, append_assoc}
+use Rattle.std.proofs.Common.{◌≡◌, ℕ, ◌+◌, ◌-◌, ◌<◌, ◌≤◌, List, ◌++◌, length, map, get_or, take, drop, sym, ap, ◌∙◌, arith, append_assoc}
 use Rattle.std.specs.List.{copy_within}
 use Rattle.std.proofs.lemmas.List.{drop-drop, length-map, take-take, take-append-le}
 use Rattle.pq_gate.specs.declared.gate.Gate.{Gate}
-use Rattle.pq_gate.specs.Circuit.{IsCircuit}
 use Rattle.pq_rules.specs.Renaming.{renamed}
 use Rattle.pq_rules.specs.Row.{RowView, IsSound, Uses}
 use Rattle.pq_match.specs.Redex.{IsMatch, gate_at, last_place}
@@ -50,7 +49,7 @@ rewritten_is row old closed filled moved places wires read kept end sound is rig
     ap (λ (gates : List Gate). take (filling + (length filled - end)) gates) moved_is
     ∙ moved_down filled end filling (omega arith) (omega arith)
     ∙ ap (λ (gates : List Gate). gates ++ drop end filled) (front ∙ ap (λ (gates : List Gate). gates ++ map (renamed read) row.replacement) (closed_is ∙ kept_is)
-      ∙ ap (λ (gates : List Gate). unchosen places 0 (take (last_place places + 1) old) ++ gates) (replacement_alike row read wires sound right))
+    ∙ ap (λ (gates : List Gate). unchosen places 0 (take (last_place places + 1) old) ++ gates) (replacement_alike row read wires sound right))
     ∙ ap (λ (gates : List Gate). (unchosen places 0 (take (last_place places + 1) old) ++ map (renamed wires) row.replacement) ++ gates) (ends ∙ ends_is)
     ∙ append_assoc (unchosen places 0 (take (last_place places + 1) old)) (map (renamed wires) row.replacement) (drop (last_place places + 1) old)
 

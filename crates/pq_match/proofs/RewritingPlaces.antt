@@ -1,6 +1,6 @@
 -- The gates that aren't chosen, gone over place by place with a pointer into the chosen places.
-use Rattle.std.proofs.Common.{◌≡◌, ◌≢◌, ℕ, ◌+◌, ◌<◌, ◌≤◌, Bool, true, false, cond, List, [], ◌∷◌, ◌++◌, length, get_or, set, take, drop, refl, sym, ap, ◌∙◌, subst, inl, inr, arith, eq-eqb, eqb, ◌-◌, zero, suc}
-use Rattle.std.specs.List.{All, AllPairs, list_any}
+use Rattle.std.proofs.Common.{◌≡◌, ◌≢◌, ℕ, ◌+◌, ◌<◌, ◌≤◌, Bool, true, false, cond, List, [], ◌∷◌, ◌++◌, length, get_or, set, take, drop, refl, sym, ap, ◌∙◌, inl, inr, arith, eq-eqb, eqb, ◌-◌, zero, suc}
+use Rattle.std.specs.List.{AllPairs}
 use Rattle.std.proofs.lemmas.Bool.{ne_eqb, cases_lt}
 use Rattle.std.proofs.lemmas.List.{take_more, take_more_set, get_or_default, get_or-drop, drop-set-lt, drop-drop, append-nil, length-take}
 use Rattle.std.proofs.lemmas.List.Folds.{list_any_none, list_any_at}
@@ -59,7 +59,7 @@ pub record IsPassed (places : List ℕ) (passed place : ℕ) : Type 0 where
   pub next : passed < length places → place ≤ get_or places passed 0
 
 pub passed_none : (places : List ℕ) → IsPassed places 0 (get_or places 0 0)
-passed_none places = record { few = omega arith; before = λ k below. absurd (omega arith); next = λ some. omega arith; }
+passed_none places = record { few = omega arith; before = λ k below. absurd (omega arith); next = λ some. omega arith }
 
 chosen_here : (places : List ℕ) (passed place : ℕ) → passed < length places → get_or places passed 0 ≡ place → is_chosen places place ≡ true
 chosen_here places passed place some here =
@@ -87,7 +87,7 @@ other_here : (places : List ℕ) (passed place : ℕ) → AllPairs (λ i j. i < 
 other_here places passed place rising is other =
     list_any_none (λ p. eqb p place) places
     (λ k d inside. ne_eqb (get_or places k d) place
-      (λ same. not_at places passed place rising is other k inside (get_or_default places k 0 d inside ∙ same)))
+    (λ same. not_at places passed place rising is other k inside (get_or_default places k 0 d inside ∙ same)))
 
 pub before_first : (places : List ℕ) → AllPairs (λ i j. i < j) places → (i : ℕ) → i < get_or places 0 0 → is_chosen places i ≡ false
 before_first places rising i below =
@@ -143,9 +143,9 @@ closed_other old gates places kept passed place gate rising inside long is other
     let count : kept + passed ≡ place = is.count in
     let lt : kept < length gates = omega arith in
     let same : gate ≡ get_or old place gate =
-      sym there ∙ ap (λ n. get_or gates n gate) (let z : place ≡ place + 0 = omega arith in z)
-      ∙ sym (get_or-drop place gates 0 gate) ∙ ap (λ (xs : List Gate). get_or xs 0 gate) is.rest ∙ get_or-drop place old 0 gate
-      ∙ ap (λ n. get_or old n gate) (let z : place + 0 ≡ place = omega arith in z) in
+    sym there ∙ ap (λ n. get_or gates n gate) (let z : place ≡ place + 0 = omega arith in z)
+    ∙ sym (get_or-drop place gates 0 gate) ∙ ap (λ (xs : List Gate). get_or xs 0 gate) is.rest ∙ get_or-drop place old 0 gate
+    ∙ ap (λ n. get_or old n gate) (let z : place + 0 ≡ place = omega arith in z) in
     record {
       pointer = record {
         few = is.pointer.few;
@@ -154,8 +154,8 @@ closed_other old gates places kept passed place gate rising inside long is other
       };
       count = omega arith;
       front = take_more_set gates kept gate lt ∙ ap (λ (xs : List Gate). xs ++ gate ∷ []) is.front
-        ∙ ap (λ (g : Gate). unchosen places 0 (take place old) ++ g ∷ []) same
-        ∙ sym (unchosen_other places old place gate inside (other_here places passed place rising is.pointer other));
+          ∙ ap (λ (g : Gate). unchosen places 0 (take place old) ++ g ∷ []) same
+          ∙ sym (unchosen_other places old place gate inside (other_here places passed place rising is.pointer other));
       rest = drop-set-lt (place + 1) gates kept gate (omega arith) ∙ drop_one gates old place is.rest;
     }
 

@@ -1,7 +1,5 @@
-use Rattle.std.proofs.Common.{◌≡◌, ◌<◌, get_or, length, arith}
+use Rattle.std.proofs.Common.{arith}
 use Rattle.pq_gate.specs.declared.gate.Gate.TheVariants.{H}
-use Rattle.pq_rules.specs.Renaming.{renamed}
-use Rattle.pq_match.specs.Redex.{gate_at}
 use Rattle.pq_match.proofs.RewritingWires.{chosen_at, read_more}
 use Rattle.pq_match.proofs.rewrite.read_wires.Goals as goal
 

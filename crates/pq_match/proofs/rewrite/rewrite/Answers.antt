@@ -1,4 +1,4 @@
-use Rattle.std.proofs.Common.{◌≡◌, ◌+◌, ◌-◌, ◌<◌, ◌≤◌, length, get_or, sym, ap, ◌∙◌, arith}
+use Rattle.std.proofs.Common.{◌≡◌, ◌+◌, ◌-◌, ◌<◌, length, get_or, sym, ap, ◌∙◌, arith}
 use Rattle.pq_match.specs.Redex.{last_place}
 use Rattle.pq_match.proofs.Rewriting.{match_long, rewritten_is}
 use Rattle.pq_match.proofs.RewritingPlaces.{last_place_is}
@@ -19,5 +19,5 @@ returns-clause-rewritten c wires is =
     let inside : get_or places (length places - 1) 0 < length c.args.gates.now = is.inside (length places - 1) 0 (omega arith) in
     rw c.replacement-replacement.ensures.replacement
     (rewritten_is row c.args.gates.now c.close_up-kept.new.gates c.put.new.gates c.copy_within.new.self places wires c.read_wires-wires.result
-      c.close_up-kept.result (get_or places (length places - 1) 0 + 1) sound is (read wires is.chosen) last (omega arith)
-      (c.put.auto.gates ∙ c.close_up-kept.auto.gates) c.close_up-kept.ensures.closed c.close_up-kept.ensures.rest c.close_up-kept.ensures.count front behind moved)
+    c.close_up-kept.result (get_or places (length places - 1) 0 + 1) sound is (read wires is.chosen) last (omega arith)
+    (c.put.auto.gates ∙ c.close_up-kept.auto.gates) c.close_up-kept.ensures.closed c.close_up-kept.ensures.rest c.close_up-kept.ensures.count front behind moved)

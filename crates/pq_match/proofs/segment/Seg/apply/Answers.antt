@@ -1,7 +1,6 @@
-use Rattle.std.proofs.Common.{◌≡◌, ◌≤◌, Some, List, length, take, sym, ap, ◌∙◌, subst, arith}
+use Rattle.std.proofs.Common.{◌≡◌, Some, List, take, sym, ap, ◌∙◌, subst, arith}
 use Rattle.std.specs.Option.{option_copied}
 use Rattle.pq_gate.specs.declared.gate.Gate.{Gate}
-use Rattle.pq_gate.specs.Matrix.{Same}
 use Rattle.pq_rules.specs.Row.{RowView, IsSound}
 use Rattle.pq_match.specs.Redex.{IsMatch}
 use Rattle.pq_match.specs.Found.{seen}
@@ -16,14 +15,14 @@ returns-clause-rewrites c wires is =
     let items_is : c.as_mut_slice.result.now ≡ c.args.self.now.items = cc in
     let P : List Gate → RowView → Type 0 = λ gates row. IsMatch gates row.pattern wires (take c.args.redex.now.count c.args.redex.now.places) in
     let matches : P c.as_mut_slice.result.now c.unwrap-row.result.now =
-      subst (λ (gates : List Gate). P gates c.unwrap-row.result.now) (sym items_is)
-      (subst (λ (row : RowView). P c.args.self.now.items row) (sym row_is) is.matches) in
+    subst (λ (gates : List Gate). P gates c.unwrap-row.result.now) (sym items_is)
+    (subst (λ (row : RowView). P c.args.self.now.items row) (sym row_is) is.matches) in
     record {
       gates = c.truncate.ensures.items
-        ∙ cut_front c.rewrite-left.new.gates _ c.rewrite-left.result c.self.inside.gates.len (omega arith) (omega arith)
-        ∙ c.rewrite-left.ensures.rewritten wires matches
-        ∙ ap (λ (gates : List Gate). rewritten gates c.unwrap-row.result.now.replacement (seen c.args.redex.now wires)) items_is
-        ∙ ap (λ (row : RowView). rewritten c.args.self.now.items row.replacement (seen c.args.redex.now wires)) row_is;
+          ∙ cut_front c.rewrite-left.new.gates _ c.rewrite-left.result c.self.inside.gates.len (omega arith) (omega arith)
+          ∙ c.rewrite-left.ensures.rewritten wires matches
+          ∙ ap (λ (gates : List Gate). rewritten gates c.unwrap-row.result.now.replacement (seen c.args.redex.now wires)) items_is
+          ∙ ap (λ (row : RowView). rewritten c.args.self.now.items row.replacement (seen c.args.redex.now wires)) row_is;
       turn = c.phase.ensures.phase ∙ ap (λ (row : RowView). row.phase) row_is;
     }
 
