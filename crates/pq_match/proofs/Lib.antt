@@ -3,3 +3,18 @@ mod FirstOfOrder
 mod FirstOfSettled
 pub mod OneFirst
 pub mod SomeFirst
+pub mod Rewriting
+pub mod RewritingLists
+pub mod RewritingPlaces
+pub mod RewritingWires
+pub mod Growing
+pub mod GrowingWalk
+pub mod SearchWires
+pub mod SearchChoice
+pub mod SearchGates
+pub mod SearchPlaces
+pub mod SearchMatch
+pub mod SearchRow
+pub mod SearchNumbers
+pub mod SearchFrom
+pub mod SearchWithin

@@ -8,3 +8,5 @@ pub mod Redex
 pub mod First
 pub mod Rewrite
 pub mod Found
+pub mod Wires
+pub mod Search

@@ -3,7 +3,10 @@
 
 pub mod laws;
 mod redex;
+mod rewrite;
+mod search;
 mod segment;
 
 pub use redex::Redex;
+pub use search::{find_first, find_within};
 pub use segment::{MAX_ROOM, Seg};

@@ -12,8 +12,8 @@ pub const MAX_ROOM: u32 = 2048;
 /// segment takes memory.
 #[derive(Drop)]
 pub struct Seg {
-    gates: Vec<Gate>,
-    asked: u32,
+    pub(crate) gates: Vec<Gate>,
+    pub(crate) asked: u32,
 }
 
 impl Model for Seg {

@@ -1,0 +1,98 @@
+use Rattle.std.proofs.Common.{◌≡◌, ℕ, zero, suc, ◌+◌, ◌<◌, ◌≤◌, ◌⊎◌, inl, inr, List, ◌∷◌, length, get_or, true, Option, Some, None, refl, sym, ap, subst, ◌∙◌, arith}
+use Rattle.std.specs.List.{slice_get}
+use Rattle.std.proofs.lemmas.Bool.{cases_order}
+use Rattle.pq_gate.specs.declared.gate.Gate.{Gate}
+use Rattle.pq_rules.specs.Kinds.{kind_of, numbers_starting, row_numbered, begins}
+use Rattle.pq_rules.specs.Row.{RowView}
+use Rattle.pq_match.specs.declared.redex.Redex.{Redex}
+use Rattle.pq_match.specs.Redex.{RedexView, IsRedex, gate_at, last_place}
+use Rattle.pq_match.specs.First.{Precedes, key}
+use Rattle.pq_match.specs.Found.{seen}
+use Rattle.pq_match.specs.Search.{IsFirstAmong, HasNoneAmong, IsFrom, IsOfRow}
+use Rattle.pq_match.proofs.SearchGates.{kind-renamed}
+use Rattle.pq_match.proofs.SearchMatch.{match_whole, match_at}
+use Rattle.pq_match.proofs.SearchNumbers.{begins_by_kind, numbers_rise, number_stands}
+use Rattle.pq_match.proofs.SearchPlaces.{StandsAt}
+
+-- none of the rows with the first of these numbers has a redex here
+pub record AreTried (rules : List RowView) (gates : List Gate) (start end : ℕ) (numbers : List ℕ) (index : ℕ) : Type 0 where
+  pub are : numbers ≡ numbers_starting (kind_of (gate_at gates start)) 1 rules
+  pub none : (k : ℕ) → k < index → (other : RedexView) → IsRedex rules gates other → ¬ IsOfRow (get_or numbers k 0) start end other
+
+module _ (rules : List RowView) (gates : List Gate) (start end : ℕ) where
+  stands_by_row : (other : RedexView) (number : ℕ) (row : RowView) → row_numbered rules number ≡ Some row → begins (kind_of (gate_at gates start)) row.pattern ≡ true →
+      StandsAt (numbers_starting (kind_of (gate_at gates start)) 1 rules) number
+  stands_by_row other zero row numbered begin = absurd (cc)
+  stands_by_row other (suc k) row numbered begin = number_stands (kind_of (gate_at gates start)) 1 rules k (suc k) row numbered begin (omega arith)
+
+  -- the row of a redex that begins here is among those whose first gate is of this gate's kind
+  number_of : (other : RedexView) → IsRedex rules gates other → get_or other.places 0 0 ≡ start → StandsAt (numbers_starting (kind_of (gate_at gates start)) 1 rules) other.row
+  number_of other is at =
+      let whole : length other.places ≡ length is.row.pattern = match_whole gates is.row.pattern other.wires other.places is.matches in
+      let places_some : 0 < length other.places = is.some in
+      let some : 0 < length is.row.pattern = omega arith in
+      stands_by_row other other.row is.row is.numbered
+      (begins_by_kind (kind_of (gate_at gates start)) is.row.pattern some
+      (sym (kind-renamed other.wires (gate_at is.row.pattern 0)) ∙
+      (ap kind_of (sym (match_at gates is.row.pattern other.wires other.places is.matches 0 some)) ∙
+      ap (λ (p : ℕ). kind_of (gate_at gates p)) at)))
+
+-- a redex that begins here is of a row with one of the numbers
+stands_in : {rules : List RowView} {gates : List Gate} {start end : ℕ} {numbers : List ℕ} {index : ℕ} → AreTried rules gates start end numbers index →
+    (other : RedexView) → IsRedex rules gates other → get_or other.places 0 0 ≡ start → StandsAt numbers other.row
+stands_in {rules} {gates} {start} {end} tried other is at = subst (λ (ns : List ℕ). StandsAt ns other.row) (sym tried.are) (number_of rules gates start end other is at)
+
+pub none_tried : (rules : List RowView) (gates : List Gate) (start end : ℕ) (numbers : List ℕ) → numbers ≡ numbers_starting (kind_of (gate_at gates start)) 1 rules →
+    AreTried rules gates start end numbers 0
+none_tried rules gates start end numbers are = record { are = are; none = λ k below. absurd (omega arith) }
+
+pub tried_more : {rules : List RowView} {gates : List Gate} {start end : ℕ} {numbers : List ℕ} {index : ℕ} → AreTried rules gates start end numbers index →
+    HasNoneAmong (IsOfRow (get_or numbers index 0) start end) rules gates → AreTried rules gates start end numbers (index + 1)
+tried_more {rules} {gates} {start} {end} {numbers} {index} tried none = record { are = tried.are; none = λ k below. by k below (cases_order k index) }
+  where
+    by : (k : ℕ) → k < index + 1 → (k ≡ index) ⊎ ((k < index) ⊎ (index < k)) → (other : RedexView) → IsRedex rules gates other → ¬ IsOfRow (get_or numbers k 0) start end other
+    by k below (inl same) = subst (λ (i : ℕ). (other : RedexView) → IsRedex rules gates other → ¬ IsOfRow (get_or numbers i 0) start end other) (sym same) none.none
+    by k below (inr (inl less)) = tried.none k less
+    by k below (inr (inr more)) = absurd (omega arith)
+
+pub tried_all : {rules : List RowView} {gates : List Gate} {start end : ℕ} {numbers : List ℕ} {index : ℕ} → AreTried rules gates start end numbers index →
+    length numbers ≤ index → HasNoneAmong (IsFrom start end) rules gates
+tried_all {rules} {gates} {start} {end} {numbers} {index} tried all = record {
+  none = λ other is from.
+      (let stands = stands_in tried other is from.0 in
+      let below : stands.at < length numbers = stands.below in
+      tried.none stands.at (omega arith) other is (sym stands.is, from.0, from.1));
+}
+
+pub tried_first : {rules : List RowView} {gates : List Gate} {start end : ℕ} {numbers : List ℕ} {index : ℕ} {redex : Redex} → AreTried rules gates start end numbers index →
+    index < length numbers → IsFirstAmong (IsOfRow (get_or numbers index 0) start end) rules gates redex → IsFirstAmong (IsFrom start end) rules gates redex
+tried_first {rules} {gates} {start} {end} {numbers} {index} {redex} tried inside first = record {
+  wires = first.wires;
+  is = first.is;
+  among = (first.among.1, first.among.2);
+  first = λ other is from before. (let stands = stands_in tried other is from.0 in by other is from before stands (cases_order stands.at index));
+  padded = first.padded;
+}
+  where
+    rise : (i j : ℕ) → i < j → j < length numbers → get_or numbers i 0 < get_or numbers j 0
+    rise i j less below =
+        subst (λ (ns : List ℕ). (i j : ℕ) → i < j → j < length ns → get_or ns i 0 < get_or ns j 0) (sym tried.are)
+        (λ i j less below. numbers_rise (kind_of (gate_at gates start)) 1 rules i j 0 less below) i j less below
+
+    later : (other : RedexView) → IsFrom start end other → (get_or numbers index 0 < other.row) →
+        Precedes (key other) (key (seen redex first.wires)) → ⊥
+    later other from more (inl less) =
+        let a : get_or (seen redex first.wires).places 0 0 ≡ start = first.among.1 in
+        let b : get_or other.places 0 0 ≡ start = from.0 in
+        omega arith
+    later other from more (inr (same, inl less)) = (let r : redex.row ≡ get_or numbers index 0 = first.among.0 in omega arith)
+    later other from more (inr (same, inr (row_same, before))) = (let r : redex.row ≡ get_or numbers index 0 = first.among.0 in omega arith)
+
+    by : (other : RedexView) → IsRedex rules gates other → IsFrom start end other → Precedes (key other) (key (seen redex first.wires)) →
+        (stands : StandsAt numbers other.row) → (stands.at ≡ index) ⊎ ((stands.at < index) ⊎ (index < stands.at)) → ⊥
+    by other is from before stands (inl same) =
+        first.first other is (sym stands.is ∙ ap (λ (k : ℕ). get_or numbers k 0) same, from.0, from.1) before
+    by other is from before stands (inr (inl less)) = tried.none stands.at less other is (sym stands.is, from.0, from.1)
+    by other is from before stands (inr (inr more)) =
+        later other from
+        (subst (λ (n : ℕ). get_or numbers index 0 < n) stands.is (rise index stands.at more stands.below)) before

@@ -1,0 +1,202 @@
+ghost use Rattle.std.specs.Prelude.{◌≡◌, ℕ, ◌+◌, ◌<◌, ◌≤◌, ◌↔◌, IsTrue, true, false, length, slice_index, slice_set};
+ghost use Rattle.pq_gate.specs.Commuting.{Commutes};
+ghost use Rattle.pq_rules.specs.Kinds.{kind_of};
+ghost use Rattle.pq_rules.specs.Row.{IsSound};
+ghost use Rattle.pq_match.specs.Found.{FindsWithin};
+ghost use Rattle.pq_match.specs.Redex.{gate_at};
+ghost use Rattle.pq_match.specs.Search.{wire_of, IsAlike, AreAlike, IsFitting, AreClear, IsGrown, FindsFull, AreEight, FindsAmong, IsFrom, IsOfRow};
+
+use crate::redex::Redex;
+use crate::segment::Seg;
+use pq_gate::{Gate, commutes};
+use pq_rules::Rules;
+
+/// The first redex of a segment: the least first place, then the least row, then the least places in
+/// the order of a dictionary. None exactly where there is none. It takes no memory.
+pub fn find_first(seg: &Seg, rules: &Rules) -> Option<Redex>
+    ensures { FindsWithin rules.now seg.now.items (length seg.now.items) result }
+{
+    let gates = seg.gates();
+    find_within(gates, rules, gates.len() as u32)
+}
+
+/// The first redex of at most 1,048,576 gates whose last place minus its first place is less than
+/// `span`. None exactly where there is none. It takes no memory.
+#[tactic(auto, using(crate::proofs::SearchWithin::none_before_first, crate::proofs::SearchWithin::none_before_more, crate::proofs::SearchWithin::none_at_all, crate::proofs::SearchWithin::first_from_here))]
+pub fn find_within(gates: &[Gate], rules: &Rules, span: u32) -> Option<Redex>
+    requires { length gates.now ≤ 1048576 }
+    ensures { FindsWithin rules.now gates.now span result }
+{
+    if span == 0 {
+        return None;
+    }
+    let len = gates.len() as u32;
+    for start in 0..len {
+        let end = len.min(start.saturating_add(span));
+        if let Some(redex) = find_from(gates, rules, start, end) {
+            return Some(redex);
+        }
+    }
+    None
+}
+
+#[tactic(auto, using(crate::proofs::SearchFrom::none_tried, crate::proofs::SearchFrom::tried_more, crate::proofs::SearchFrom::tried_first))]
+// the first redex whose first place is the start and whose places all lie before the end
+fn find_from(gates: &[Gate], rules: &Rules, start: u32, end: u32) -> Option<Redex>
+    requires few { length gates.now ≤ 1048576 }
+    requires start { start < end }
+    requires end { end ≤ length gates.now }
+    ensures { FindsAmong (IsFrom start end) rules.now gates.now result }
+{
+    for number in rules.rows_starting(gates[start as usize]) {
+        if let Some(redex) = find_row(gates, rules, *number, start, end) {
+            return Some(redex);
+        }
+    }
+    None
+}
+
+// the first of these redexes that are of this row
+fn find_row(gates: &[Gate], rules: &Rules, number: u32, start: u32, end: u32) -> Option<Redex>
+    requires few { length gates.now ≤ 1048576 }
+    requires start { start < end }
+    requires end { end ≤ length gates.now }
+    ensures { FindsAmong (IsOfRow number start end) rules.now gates.now result }
+{
+    let Some(row) = rules.row(number) else {
+        return None;
+    };
+    let pattern = row.pattern();
+    let Some(places) = extend_at(gates, pattern, end, [0; 8], 0, start) else {
+        return None;
+    };
+    Some(Redex {
+        row: number,
+        count: pattern.len() as u8,
+        places,
+    })
+}
+
+// Chooses this place for the next gate of the pattern, and the least places for the others.
+#[cycle(growing)]
+fn extend_at(gates: &[Gate], pattern: &[Gate], end: u32, places: [u32; 8], count: usize, place: u32) -> Option<[u32; 8]>
+    requires few { length gates.now ≤ 1048576 }
+    requires short { length pattern.now ≤ 8 }
+    requires end { end ≤ length gates.now }
+    requires next { count < length pattern.now }
+    requires place { place < end }
+    requires grown { IsGrown gates.now pattern.now end places count }
+    requires above { (s : ℕ) → s < count → slice_index places s < place }
+    requires clear { AreClear gates.now places count place }
+    requires eight { AreEight places count }
+    ensures { FindsFull gates.now pattern.now end (slice_set places count place) (count + 1) result }
+{
+    let mut grown = places;
+    grown[count] = place;
+    if !fits(gates, pattern, &grown, count) {
+        return None;
+    }
+    if count + 1 == pattern.len() {
+        return Some(grown);
+    }
+    extend(gates, pattern, end, grown, count + 1)
+}
+
+// Chooses the least places for the gates of the pattern that have none yet.
+#[cycle(growing)]
+fn extend(gates: &[Gate], pattern: &[Gate], end: u32, places: [u32; 8], count: usize) -> Option<[u32; 8]>
+    requires few { length gates.now ≤ 1048576 }
+    requires short { length pattern.now ≤ 8 }
+    requires end { end ≤ length gates.now }
+    requires next { count < length pattern.now }
+    requires some { 0 < count }
+    requires grown { IsGrown gates.now pattern.now end places count }
+    requires eight { AreEight places count }
+    ensures { FindsFull gates.now pattern.now end places count result }
+{
+    for place in places[count - 1] + 1..end {
+        if let Some(found) = extend_at(gates, pattern, end, places, count, place) {
+            return Some(found);
+        }
+        if !is_passable(gates, &places, count, place) {
+            return None;
+        }
+    }
+    None
+}
+
+// whether the gate at the last of the places fits to the pattern, and to the gates before it
+fn fits(gates: &[Gate], pattern: &[Gate], places: &[u32; 8], last: usize) -> bool
+    requires short { last < length pattern.now }
+    requires eight { length pattern.now ≤ 8 }
+    requires inside { (s : ℕ) → s ≤ last → slice_index places.now s < length gates.now }
+    ensures { IsTrue result ↔ IsFitting gates.now pattern.now places.now last }
+{
+    let gate = gates[places[last] as usize];
+    if !are_of_one_kind(gate, pattern[last]) {
+        return false;
+    }
+    for s in 0..=last {
+        if !are_alike(pattern[s], pattern[last], gates[places[s] as usize], gate) {
+            return false;
+        }
+    }
+    true
+}
+
+// whether the gate at the place commutes with all the chosen gates
+fn is_passable(gates: &[Gate], places: &[u32; 8], count: usize, place: u32) -> bool
+    requires few { count ≤ 8 }
+    requires place { place < length gates.now }
+    requires inside { (s : ℕ) → s < count → slice_index places.now s < length gates.now }
+    ensures { IsTrue result ↔ ((s : ℕ) → s < count → Commutes (gate_at gates.now (slice_index places.now s)) (gate_at gates.now place)) }
+{
+    for s in 0..count {
+        if !commutes(gates[places[s] as usize], gates[place as usize]) {
+            return false;
+        }
+    }
+    true
+}
+
+// whether the wires of two gates are equal exactly where those of the pattern's gates are
+fn are_alike(of_first: Gate, of_second: Gate, first: Gate, second: Gate) -> bool
+    ensures { IsTrue result ↔ AreAlike of_first of_second first second }
+{
+    let (of_wire, of_other) = wires(of_first);
+    let (wire, other) = wires(first);
+    is_alike(of_wire, of_second, wire, second) && is_alike(of_other, of_second, other, second)
+}
+
+// whether a wire is one of the gate's wires exactly where the pattern's wire is that of the pattern's gate
+fn is_alike(of_wire: u32, of_gate: Gate, wire: u32, gate: Gate) -> bool
+    ensures { IsTrue result ↔ IsAlike of_wire of_gate wire gate }
+{
+    let (p, q) = wires(of_gate);
+    let (v, w) = wires(gate);
+    (wire == v) == (of_wire == p) && (wire == w) == (of_wire == q)
+}
+
+// the wires that the gate uses: one twice, if it uses one only
+fn wires(gate: Gate) -> (u32, u32)
+    ensures first { result.0 ≡ wire_of false gate }
+    ensures second { result.1 ≡ wire_of true gate }
+{
+    match gate {
+        Gate::H { wire } | Gate::X { wire } | Gate::Phase { wire, .. } => (wire, wire),
+        Gate::Cx { control, target } => (control, target),
+    }
+}
+
+// whether the gates are of one kind: phases, by the same eighths
+fn are_of_one_kind(first: Gate, second: Gate) -> bool
+    ensures { IsTrue result ↔ (kind_of first ≡ kind_of second) }
+{
+    match (first, second) {
+        (Gate::H { .. }, Gate::H { .. }) => true,
+        (Gate::X { .. }, Gate::X { .. }) => true,
+        (Gate::Cx { .. }, Gate::Cx { .. }) => true,
+        (Gate::Phase { eighths, .. }, Gate::Phase { eighths: other, .. }) => eighths == other,
+        _ => false,
+    }
+}
