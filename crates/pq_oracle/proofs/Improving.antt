@@ -1,12 +1,16 @@
 -- The oracle's answers by one rewriting after another.
-use Rattle.std.proofs.Common.{◌≡◌, ℕ, ◌+◌, ◌%◌, ◌<◌, Bool, true, false, ◌||◌, List, length, refl, sym, ap, ◌∙◌, subst, arith}
+use Rattle.std.proofs.Common.{Option, Some, None, ◌≡◌, ℕ, ◌+◌, ◌%◌, ◌<◌, Bool, true, false, ◌||◌, List, length, refl, sym, ap, ◌∙◌, subst, arith}
 use Rattle.pq_gate.specs.declared.gate.Gate.{Gate}
 use Rattle.pq_rules.specs.Row.{RowView}
 use Rattle.pq_match.specs.Redex.{RedexView, HasNoRedex, IsRedex}
 use Rattle.pq_match.specs.First.{IsFirst}
+use Rattle.pq_match.specs.Found.{seen, FindsWithin, IsRedexOf, Rewrites}
+use Rattle.pq_match.specs.declared.redex.Redex.{Redex}
+use Rattle.pq_match.proofs.OneFirst.{first_of_all}
+use Rattle.pq_oracle.specs.Outcomes.{answer_of}
 use Rattle.pq_match.specs.Rewrite.{rewritten}
 use Rattle.pq_oracle.specs.Ora.{Answer, Ora, ends, goes, after_one, untouched}
-use Rattle.pq_oracle.specs.declared.improve.Outcome.{Outcome}
+use Rattle.pq_oracle.specs.declared.oracle.Outcome.{Outcome}
 
 abbrev pub answered : List Gate → Bool → ℕ → Answer
 answered gates improved phase = record { gates = gates; improved = improved; phase = phase }
@@ -64,3 +68,20 @@ pub last_one : (rules : List RowView) (old now : List Gate) (so_far : Outcome) �
     → Ora rules old (record { gates = now; improved = so_far.improved; phase = so_far.phase })
 last_one rules old now so_far small leads none =
     subst (Ora rules old) (ended now so_far.improved so_far.phase small) (leads (untouched now) (ends now none))
+
+-- one rewriting more, of the redex that was found
+pub found_one : (rules : List RowView) (old now new : List Gate) (so_far : Outcome) (redex : Redex) (phase : ℕ)
+    → LeadsTo rules old now so_far → FindsWithin rules now (length now) (Some redex) → Rewrites rules now redex new phase
+    → LeadsTo rules old new (record { improved = true; phase = (so_far.phase + phase) % 8 })
+found_one rules old now new so_far redex phase leads found rewrites =
+    let done = rewrites found.wires found.first.is in
+    one_more rules old now new so_far (seen redex found.wires) found.first phase leads done.gates done.turn
+
+-- a redex that was found is one
+pub found_redex : (rules : List RowView) (gates : List Gate) (redex : Redex) → FindsWithin rules gates (length gates) (Some redex) → IsRedexOf rules gates redex
+found_redex rules gates redex found = record { wires = found.wires; is = found.first.is; few = found.padded.few }
+
+-- none was found any more
+pub last_found : (rules : List RowView) (old now : List Gate) (so_far : Outcome) → so_far.phase < 8 → LeadsTo rules old now so_far
+    → FindsWithin rules now (length now) None → Ora rules old (answer_of now so_far)
+last_found rules old now so_far small leads none = last_one rules old now so_far small leads (first_of_all rules now none)

@@ -2,7 +2,7 @@
 use Rattle.std.specs.Prelude.{ℕ, List}
 use Rattle.pq_gate.specs.declared.gate.Gate.{Gate}
 use Rattle.pq_rules.specs.Row.{RowView}
-use Rattle.pq_oracle.specs.declared.improve.Outcome.{Outcome}
+use Rattle.pq_oracle.specs.declared.oracle.Outcome.{Outcome}
 use Rattle.pq_oracle.specs.Ora.{Answer}
 
 -- the gates that are left, with what came of the segment

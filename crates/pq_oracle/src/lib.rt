@@ -1,14 +1,14 @@
 //! The oracle: what a segment of a circuit is rewritten to, and what keeps that an answer is the oracle's.
 #![tactic(auto)]
 
-mod improve;
 mod laws;
+mod oracle;
 mod pairs;
 #[cfg(test)]
 mod tests;
 mod worked;
 
-pub use improve::{Outcome, improve};
 pub use laws::{oracle_has_one_answer, oracle_keeps_the_matrix};
+pub use oracle::{Outcome, improve};
 pub use pairs::{cancel_pairs, one_cancelled};
 pub use worked::{Worked, WorkedList};

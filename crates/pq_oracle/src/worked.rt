@@ -1,7 +1,8 @@
 ghost use Rattle.std.specs.Prelude.{◌≡◌};
+ghost use Rattle.pq_oracle.specs.Ora.{Ora};
 ghost use Rattle.pq_oracle.specs.Outcomes.{WorkedView};
 
-use crate::improve::{Outcome, improve};
+use crate::oracle::{Outcome, improve};
 use pq_gate::{Gate, GateList};
 use pq_list::RoomList;
 use pq_match::Seg;

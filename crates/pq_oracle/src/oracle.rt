@@ -18,6 +18,7 @@ pub struct Outcome {
     pub phase: u8,
 }
 
+#[tactic(auto, using(crate::proofs::Improving::none_yet, crate::proofs::Improving::found_redex, crate::proofs::Improving::found_one, crate::proofs::Improving::last_found))]
 /// Rewrites the first redex of a segment, again and again, until there is none: the segment becomes the
 /// oracle's answer to it. It takes no memory.
 pub fn improve(rules: &Rules, seg: &mut Seg) -> Outcome

@@ -1,0 +1,15 @@
+use Rattle.std.proofs.Common.{◌<◌, ◌≡◌, length}
+use Rattle.pq_oracle.proofs.Improving.{LeadsTo}
+use Rattle.pq_oracle.proofs.oracle.improve.Given as goal
+
+-- whatever the oracle answers from here on is its answer to the segment, with what came so far
+abbrev pub invariant-rewrites : goal.invariant-rewrites
+invariant-rewrites l = record {
+  leads : LeadsTo l.rules l.fn.seg.items l.seg.items l.outcome;
+  phase : l.outcome.phase < 8;
+  room : l.seg.room ≡ l.fn.seg.room;
+}
+
+-- each rewriting shortens the segment
+abbrev pub decreases-rewrites : goal.decreases-rewrites
+decreases-rewrites l = length l.seg.items
