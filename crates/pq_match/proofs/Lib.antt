@@ -7,3 +7,4 @@ pub mod Rewriting
 pub mod RewritingLists
 pub mod RewritingPlaces
 pub mod RewritingWires
+pub mod RewritingTests
