@@ -4,12 +4,9 @@
 pub mod laws;
 mod redex;
 mod rewrite;
-<<<<<<< HEAD
-mod search;
-=======
 #[cfg(test)]
 mod rewriting_tests;
->>>>>>> 238e6bb61edb762e4ac1e8d15e89054d55403785
+mod search;
 mod segment;
 
 pub use redex::Redex;
