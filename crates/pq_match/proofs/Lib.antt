@@ -18,3 +18,4 @@ pub mod SearchRow
 pub mod SearchNumbers
 pub mod SearchFrom
 pub mod SearchWithin
+pub mod RewritingTests

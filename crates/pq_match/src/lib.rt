@@ -4,6 +4,8 @@
 pub mod laws;
 mod redex;
 mod rewrite;
+#[cfg(test)]
+mod rewriting_tests;
 mod search;
 mod segment;
 

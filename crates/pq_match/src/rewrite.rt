@@ -25,6 +25,7 @@ impl Seg {
         requires { IsRedexOf rules.now self.old.items redex.now }
         ensures rewrites { Rewrites rules.now self.old.items redex.now self.new.items result }
         ensures same { (n : ℕ) → IsCircuit n self.old.items → Same n self.old.items self.new.items result }
+        ensures turn { result < 8 }
         ensures shorter { length self.new.items < length self.old.items }
         ensures room { self.new.room ≡ self.old.room }
     {
