@@ -1,6 +1,9 @@
 -- The oracle's answers by one rewriting after another.
-use Rattle.std.proofs.Common.{Option, Some, None, ◌≡◌, ℕ, ◌+◌, ◌%◌, ◌<◌, Bool, true, false, ◌||◌, List, length, refl, sym, ap, ◌∙◌, subst, arith}
+use Rattle.std.proofs.Common.{◌↔◌, Option, Some, None, ◌≡◌, ℕ, ◌+◌, ◌%◌, ◌<◌, Bool, true, false, ◌||◌, List, length, refl, sym, ap, ◌∙◌, subst, arith}
 use Rattle.pq_gate.specs.declared.gate.Gate.{Gate}
+use Rattle.pq_gate.specs.Circuit.{IsCircuit}
+use Rattle.pq_gate.specs.Matrix.{Same}
+use Rattle.pq_gate.proofs.SameLaws.{same_reflexive, same_transitive}
 use Rattle.pq_rules.specs.Row.{RowView}
 use Rattle.pq_match.specs.Redex.{RedexView, HasNoRedex, IsRedex}
 use Rattle.pq_match.specs.First.{IsFirst}
@@ -8,6 +11,7 @@ use Rattle.pq_match.specs.Found.{seen, FindsWithin, IsRedexOf, Rewrites}
 use Rattle.pq_match.specs.declared.redex.Redex.{Redex}
 use Rattle.pq_match.proofs.OneFirst.{first_of_all}
 use Rattle.pq_oracle.specs.Outcomes.{answer_of}
+use Rattle.pq_oracle.proofs.Answering.{improved, unchanged}
 use Rattle.pq_match.specs.Rewrite.{rewritten}
 use Rattle.pq_oracle.specs.Ora.{Answer, Ora, ends, goes, after_one, untouched}
 use Rattle.pq_oracle.specs.declared.oracle.Outcome.{Outcome}
@@ -85,3 +89,23 @@ found_redex rules gates redex found = record { wires = found.wires; is = found.f
 pub last_found : (rules : List RowView) (old now : List Gate) (so_far : Outcome) → so_far.phase < 8 → LeadsTo rules old now so_far
     → FindsWithin rules now (length now) None → Ora rules old (answer_of now so_far)
 last_found rules old now so_far small leads none = last_one rules old now so_far small leads (first_of_all rules now none)
+
+-- gates have their own matrix, and turn by the phases of both steps
+pub same_yet : (gates : List Gate) (n : ℕ) → IsCircuit n gates → Same n gates gates 0
+same_yet gates n circuit = same_reflexive n gates circuit
+
+pub same_on : (old now new : List Gate) (j k : ℕ) → ((n : ℕ) → IsCircuit n old → Same n old now j) → ((n : ℕ) → IsCircuit n now → Same n now new k)
+    → (n : ℕ) → IsCircuit n old → Same n old new ((j + k) % 8)
+same_on old now new j k first second n circuit =
+    let here = first n circuit in same_transitive n j k old now new here (second n here.right)
+
+pub last_clean : (rules : List RowView) (now : List Gate) → FindsWithin rules now (length now) None → HasNoRedex rules now
+last_clean rules now none = first_of_all rules now none
+
+pub last_unchanged : (rules : List RowView) (old now : List Gate) (so_far : Outcome) → so_far.phase < 8 → LeadsTo rules old now so_far
+    → FindsWithin rules now (length now) None → so_far.improved ≡ false → (now ≡ old) × (so_far.phase ≡ 0)
+last_unchanged rules old now so_far small leads none = unchanged rules old _ (last_found rules old now so_far small leads none)
+
+pub last_improved : (rules : List RowView) (old now : List Gate) (so_far : Outcome) → so_far.phase < 8 → LeadsTo rules old now so_far
+    → FindsWithin rules now (length now) None → so_far.improved ≡ false ↔ HasNoRedex rules old
+last_improved rules old now so_far small leads none = improved rules old _ (last_found rules old now so_far small leads none)

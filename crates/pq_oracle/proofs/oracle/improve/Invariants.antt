@@ -1,4 +1,6 @@
-use Rattle.std.proofs.Common.{◌<◌, ◌≡◌, length}
+use Rattle.std.proofs.Common.{ℕ, ◌<◌, ◌≤◌, ◌≡◌, length}
+use Rattle.pq_gate.specs.Circuit.{IsCircuit}
+use Rattle.pq_gate.specs.Matrix.{Same}
 use Rattle.pq_oracle.proofs.Improving.{LeadsTo}
 use Rattle.pq_oracle.proofs.oracle.improve.Given as goal
 
@@ -7,6 +9,8 @@ abbrev pub invariant-rewrites : goal.invariant-rewrites
 invariant-rewrites l = record {
   leads : LeadsTo l.rules l.fn.seg.items l.seg.items l.outcome;
   phase : l.outcome.phase < 8;
+  same : (n : ℕ) → IsCircuit n l.fn.seg.items → Same n l.fn.seg.items l.seg.items l.outcome.phase;
+  shorter : length l.seg.items ≤ length l.fn.seg.items;
   room : l.seg.room ≡ l.fn.seg.room;
 }
 
