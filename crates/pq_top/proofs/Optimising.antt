@@ -1,8 +1,10 @@
 -- A program with optimised gates in place of its own.
-use Rattle.std.proofs.Common.{◌≡◌, ℕ, ◌≤◌, List, length, ap, arith, subst, sym}
+use Rattle.std.proofs.Common.{◌≡◌, ℕ, ◌+◌, ◌≤◌, List, ◌∷◌, ◌++◌, length, length-append, ap, arith, subst, sym}
 use Rattle.pq_gate.specs.declared.gate.Gate.{Gate}
 use Rattle.pq_gate.specs.Circuit.{IsCircuit}
 use Rattle.pq_gate.specs.Matrix.{Same}
+use Rattle.pq_oracle.specs.Cancelled.{Arises, Cancelled}
+use Rattle.pq_oracle.proofs.ArisesLaws.{kept_along_Arises}
 use Rattle.pq_text.specs.Program.{ProgramView, places_of}
 use Rattle.pq_text.specs.WellFormed.{WellFormed}
 use Rattle.pq_text.specs.Print.{print}
@@ -11,6 +13,20 @@ use Rattle.pq_read.specs.declared.program.Program.{Program}
 use Rattle.pq_read.specs.Environment.{view}
 use Rattle.pq_read.specs.Reads.{Reads}
 use Rattle.pq_top.specs.Optimised.{options, with_gates, Optimises, IsOptimised}
+
+two_less : (n : ℕ) (a b : List Gate) (g : Gate) → length (a ++ g ∷ g ∷ b) ≤ n → length (a ++ b) ≤ n
+two_less n a b g h = omega (arith, h, length-append a (g ∷ g ∷ b), length-append a b)
+
+-- what is left when pairs are taken out is no longer
+pub cancelled_shorter : (c d : List Gate) → Cancelled c d → length d ≤ length c
+cancelled_shorter c d cancelled =
+    kept_along_Arises (λ e. length e ≤ length c) (λ x y g pair h. two_less (length c) x y g h) (omega arith) cancelled.arises
+
+-- the same of lists that are equal to the one that was handed on, and to the one that came back
+pub same_as_given : (given old made new : List Gate) (phase : ℕ) → given ≡ old → new ≡ made → ((n : ℕ) → IsCircuit n given → Same n given made phase)
+    → (n : ℕ) → IsCircuit n old → Same n old new phase
+same_as_given given old made new phase is came same =
+    subst (λ gs. (n : ℕ) → IsCircuit n gs → Same n gs new phase) is (subst (λ gs. (n : ℕ) → IsCircuit n given → Same n given gs phase) (sym came) same)
 
 -- `given` are the gates as they were handed on
 same_given : (p : ProgramView) (given gates : List Gate) (phase : ℕ) → given ≡ p.gates → WellFormed p

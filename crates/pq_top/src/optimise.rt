@@ -21,7 +21,7 @@ const OPTIONS: Options = Options {
 
 /// Gates, and by how many eighths of a whole turn those that they were made of turn more.
 #[derive(Drop)]
-pub struct Optimised {
+pub struct Turned {
     pub gates: GateList,
     pub phase: u8,
 }
@@ -45,7 +45,8 @@ pub fn optimised(alloc: Global, text: ByteList) -> Result<ByteList, ReadError>
 }
 
 // The oracle's answer where the gates are few enough, else what is left when pairs are taken out.
-fn optimised_gates(alloc: Global, gates: &[Gate]) -> Result<Optimised, AllocError>
+#[tactic(auto, using(crate::proofs::Optimising::cancelled_shorter))]
+fn optimised_gates(alloc: Global, gates: &[Gate]) -> Result<Turned, AllocError>
     requires { length gates.now ≤ 1048576 }
     ensures optimises { IfOk result (λ made. Optimises gates.now made.gates.items made.phase) }
     ensures same { IfOk result (λ made. (n : ℕ) → IsCircuit n gates.now → Same n gates.now made.gates.items made.phase) }
@@ -55,11 +56,12 @@ fn optimised_gates(alloc: Global, gates: &[Gate]) -> Result<Optimised, AllocErro
         return rewritten_gates(alloc, gates);
     }
     let gates = cancel_pairs(alloc, gates)?;
-    Ok(Optimised { gates, phase: 0 })
+    Ok(Turned { gates, phase: 0 })
 }
 
 // The oracle's answer to gates that are few enough for one segment.
-fn rewritten_gates(alloc: Global, gates: &[Gate]) -> Result<Optimised, AllocError>
+#[tactic(auto, using(crate::proofs::Optimising::same_as_given))]
+fn rewritten_gates(alloc: Global, gates: &[Gate]) -> Result<Turned, AllocError>
     requires { length gates.now ≤ oracle_limit }
     ensures rewritten { IfOk result (λ made. IsRewritten gates.now made.gates.items made.phase) }
     ensures same { IfOk result (λ made. (n : ℕ) → IsCircuit n gates.now → Same n gates.now made.gates.items made.phase) }
@@ -69,7 +71,7 @@ fn rewritten_gates(alloc: Global, gates: &[Gate]) -> Result<Optimised, AllocErro
     let mut seg = segment_of(alloc, gates)?;
     let outcome = improve(&rules, &mut seg);
     let gates = Vec::from_slice(alloc, seg.gates())?;
-    Ok(Optimised {
+    Ok(Turned {
         gates: GateList::of(gates),
         phase: outcome.phase,
     })
