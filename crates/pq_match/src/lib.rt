@@ -5,6 +5,8 @@ pub mod laws;
 mod redex;
 mod search;
 mod segment;
+#[cfg(test)]
+mod tests;
 
 pub use redex::Redex;
 pub use search::{find_first, find_within};

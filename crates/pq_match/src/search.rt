@@ -79,7 +79,14 @@ fn find_row(gates: &[Gate], rules: &Rules, number: u32, start: u32, end: u32) ->
 
 // Chooses this place for the next gate of the pattern, and the least places for the others.
 #[cycle(growing)]
-fn extend_at(gates: &[Gate], pattern: &[Gate], end: u32, places: [u32; 8], count: usize, place: u32) -> Option<[u32; 8]>
+fn extend_at(
+    gates: &[Gate],
+    pattern: &[Gate],
+    end: u32,
+    places: [u32; 8],
+    count: usize,
+    place: u32,
+) -> Option<[u32; 8]>
     requires few { length gates.now ≤ 1048576 }
     requires short { length pattern.now ≤ 8 }
     requires end { end ≤ length gates.now }
@@ -104,7 +111,13 @@ fn extend_at(gates: &[Gate], pattern: &[Gate], end: u32, places: [u32; 8], count
 
 // Chooses the least places for the gates of the pattern that have none yet.
 #[cycle(growing)]
-fn extend(gates: &[Gate], pattern: &[Gate], end: u32, places: [u32; 8], count: usize) -> Option<[u32; 8]>
+fn extend(
+    gates: &[Gate],
+    pattern: &[Gate],
+    end: u32,
+    places: [u32; 8],
+    count: usize,
+) -> Option<[u32; 8]>
     requires few { length gates.now ≤ 1048576 }
     requires short { length pattern.now ≤ 8 }
     requires end { end ≤ length gates.now }

@@ -35,8 +35,26 @@ extend_at-returns-then-count-pattern t c =
 
 pub extend_at-extend-requires : goal.extend_at-extend-requires
 extend_at-extend-requires t c =
-    let room : c.args.count < 8 = omega arith in
-    (search rules, (c.requires.few, (c.requires.short, (c.requires.end, (omega arith, (omega arith,
-    (grown_more c.args.gates.now c.args.pattern.now c.args.end c.args.places c.args.count c.args.place c.requires.grown c.requires.eight.eight room
-    c.requires.above c.requires.clear c.requires.place (c.if-not-fits.ensures.0 refl),
-    eight_more c.args.places c.args.count c.args.place c.requires.eight.eight room c.requires.eight)))))))
+    let room : c.args.count < 8 = omega arith in (
+      search rules,
+      (
+        c.requires.few,
+        (
+          c.requires.short,
+          (
+            c.requires.end,
+            (
+              omega arith,
+              (
+                omega arith,
+                (
+                  grown_more c.args.gates.now c.args.pattern.now c.args.end c.args.places c.args.count c.args.place c.requires.grown c.requires.eight.eight room
+                      c.requires.above c.requires.clear c.requires.place (c.if-not-fits.ensures.0 refl),
+                  eight_more c.args.places c.args.count c.args.place c.requires.eight.eight room c.requires.eight,
+                ),
+              ),
+            ),
+          ),
+        ),
+      ),
+    )
