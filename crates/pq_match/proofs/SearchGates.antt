@@ -11,7 +11,8 @@ use Rattle.pq_gate.specs.Eighths.{eighths_of}
 use Rattle.pq_rules.specs.Kinds.{kind_of}
 use Rattle.pq_rules.specs.Renaming.{renamed}
 use Rattle.pq_match.specs.Redex.{gate_at, AreWires}
-use Rattle.pq_match.specs.Search.{wire_of, AreAlike}
+use Rattle.pq_match.specs.Wires.{wire_of}
+use Rattle.pq_match.specs.Search.{AreAlike}
 
 pub kind-renamed : (e : List ℕ) (p : Gate) → kind_of (renamed e p) ≡ kind_of p
 kind-renamed e (H wire) = refl

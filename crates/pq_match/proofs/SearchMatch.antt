@@ -11,7 +11,8 @@ use Rattle.pq_rules.specs.Kinds.{kind_of}
 use Rattle.pq_rules.specs.Renaming.{renamed}
 use Rattle.pq_rules.specs.Row.{Uses}
 use Rattle.pq_match.specs.Redex.{gate_at, last_place, is_chosen, AreWires, IsMatch, AreFree}
-use Rattle.pq_match.specs.Search.{wire_of, AreAlike, IsFitting, IsPassed, AreClear, IsGrown, IsFull}
+use Rattle.pq_match.specs.Wires.{wire_of}
+use Rattle.pq_match.specs.Search.{AreAlike, IsFitting, IsPassed, AreClear, IsGrown, IsFull}
 use Rattle.pq_match.proofs.SearchChoice.{IsChoice, choose}
 use Rattle.pq_match.proofs.SearchGates.{kind-renamed, wire_below, gate_on_wires, wire_used, renamed_by_wires, renamed_alike}
 use Rattle.pq_match.proofs.SearchPlaces.{last_place_at, place_upto_last, place_is_chosen, passed_not_chosen, StandsAt, chosen_stands, not_chosen_passed}

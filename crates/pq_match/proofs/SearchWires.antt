@@ -1,6 +1,7 @@
 use Rattle.std.proofs.Common.{◌≡◌, ℕ, Bool, true, false, sym, subst}
 use Rattle.pq_gate.specs.declared.gate.Gate.{Gate}
-use Rattle.pq_match.specs.Search.{wire_of, IsAlike, AreAlike}
+use Rattle.pq_match.specs.Wires.{wire_of}
+use Rattle.pq_match.specs.Search.{IsAlike, AreAlike}
 
 -- Two gates are alike where both wires of the first are.
 module _ (of_first of_second first second : Gate) (of_wire of_other wire other : ℕ) (of_wire_is : of_wire ≡ wire_of false of_first) (of_other_is : of_other ≡ wire_of true of_first)

@@ -1,7 +1,6 @@
 -- What the search for the first redex goes by: the places of a pattern's gates, without the wires.
-use Rattle.std.specs.Prelude.{◌≡◌, ◌≢◌, ℕ, ◌+◌, ◌<◌, ◌≤◌, ◌↔◌, Bool, cond, List, ◌∷◌, length, slice_index, Option, Some, None}
+use Rattle.std.specs.Prelude.{◌≡◌, ◌≢◌, ℕ, ◌+◌, ◌<◌, ◌≤◌, ◌↔◌, Bool, List, ◌∷◌, length, slice_index, Option, Some, None}
 use Rattle.pq_gate.specs.declared.gate.Gate.{Gate}
-use Rattle.pq_gate.specs.declared.gate.Gate.TheVariants.{H, X, Phase, Cx}
 use Rattle.pq_gate.specs.Commuting.{Commutes}
 use Rattle.pq_rules.specs.Kinds.{kind_of}
 use Rattle.pq_rules.specs.Row.{RowView}
@@ -9,13 +8,7 @@ use Rattle.pq_match.specs.declared.redex.Redex.{Redex}
 use Rattle.pq_match.specs.Redex.{RedexView, IsRedex, IsWithin, gate_at, last_place}
 use Rattle.pq_match.specs.First.{Precedes, key}
 use Rattle.pq_match.specs.Found.{seen, IsPadded}
-
--- A wire of the gate: of a CX the control, or else the target; of another gate its only wire both times.
-abbrev pub wire_of : Bool → Gate → ℕ
-wire_of second (H wire) = wire
-wire_of second (X wire) = wire
-wire_of second (Phase eighths wire) = wire
-wire_of second (Cx control target) = cond second target control
+use Rattle.pq_match.specs.Wires.{wire_of}
 
 -- a wire is one of the gate's wires exactly where the pattern's wire is that of the pattern's gate
 abbrev pub IsAlike : ℕ → Gate → ℕ → Gate → Type 0

@@ -1,10 +1,11 @@
 ghost use Rattle.std.specs.Prelude.{◌≡◌, ℕ, ◌+◌, ◌<◌, ◌≤◌, ◌↔◌, IsTrue, true, false, length, slice_index, slice_set};
 ghost use Rattle.pq_rules.specs.Kinds.{kind_of};
 ghost use Rattle.pq_match.specs.Found.{FindsWithin};
-ghost use Rattle.pq_match.specs.Search.{wire_of, IsAlike, AreAlike, IsFitting, IsNext, IsPassable, IsGrown, FindsFull, AreEight, FindsAmong, IsFrom, IsOfRow};
+ghost use Rattle.pq_match.specs.Search.{IsAlike, AreAlike, IsFitting, IsNext, IsPassable, IsGrown, FindsFull, AreEight, FindsAmong, IsFrom, IsOfRow};
 
 use crate::redex::Redex;
 use crate::segment::Seg;
+use crate::wires::wires_of;
 use pq_gate::{Gate, commutes};
 use pq_rules::Rules;
 
@@ -174,8 +175,8 @@ fn is_passable(gates: &[Gate], places: &[u32; 8], count: usize, place: u32) -> b
 fn are_alike(of_first: Gate, of_second: Gate, first: Gate, second: Gate) -> bool
     ensures { IsTrue result ↔ AreAlike of_first of_second first second }
 {
-    let (of_wire, of_other) = wires(of_first);
-    let (wire, other) = wires(first);
+    let (of_wire, of_other) = wires_of(of_first);
+    let (wire, other) = wires_of(first);
     is_alike(of_wire, of_second, wire, second) && is_alike(of_other, of_second, other, second)
 }
 
@@ -183,20 +184,9 @@ fn are_alike(of_first: Gate, of_second: Gate, first: Gate, second: Gate) -> bool
 fn is_alike(of_wire: u32, of_gate: Gate, wire: u32, gate: Gate) -> bool
     ensures { IsTrue result ↔ IsAlike of_wire of_gate wire gate }
 {
-    let (p, q) = wires(of_gate);
-    let (v, w) = wires(gate);
+    let (p, q) = wires_of(of_gate);
+    let (v, w) = wires_of(gate);
     (wire == v) == (of_wire == p) && (wire == w) == (of_wire == q)
-}
-
-// the wires that the gate uses: one twice, if it uses one only
-fn wires(gate: Gate) -> (u32, u32)
-    ensures first { result.0 ≡ wire_of false gate }
-    ensures second { result.1 ≡ wire_of true gate }
-{
-    match gate {
-        Gate::H { wire } | Gate::X { wire } | Gate::Phase { wire, .. } => (wire, wire),
-        Gate::Cx { control, target } => (control, target),
-    }
 }
 
 // whether the gates are of one kind: phases, by the same eighths
