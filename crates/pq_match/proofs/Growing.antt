@@ -6,7 +6,7 @@ use Rattle.pq_gate.specs.declared.gate.Gate.{Gate}
 use Rattle.pq_gate.specs.Commuting.{Commutes}
 use Rattle.pq_rules.specs.Kinds.{kind_of}
 use Rattle.pq_match.specs.Redex.{gate_at}
-use Rattle.pq_match.specs.Search.{AreAlike, IsFitting, IsPassed, AreClear, IsGrown, IsFull, Begins, IsBefore, AreEight, IsFirstFull, HasNoFull}
+use Rattle.pq_match.specs.Search.{AreAlike, IsFitting, IsPassed, AreClear, IsNext, IsGrown, IsFull, Begins, IsBefore, AreEight, IsFirstFull, HasNoFull}
 
 -- Putting a place behind the first `count` of eight.
 module _ (places : List ℕ) (count place : ℕ) (eight : length places ≡ 8) (room : count < 8) where
@@ -30,8 +30,8 @@ module _ (places : List ℕ) (count place : ℕ) (eight : length places ≡ 8) (
       by (inr (inl less)) = begins s less ∙ sym (put_before s less)
       by (inr (inr more)) = absurd (omega arith)
 
-  pub eight_more : AreEight places count → AreEight (set places count place) (count + 1)
-  eight_more are = record {
+  more_of_eight : AreEight places count → AreEight (set places count place) (count + 1)
+  more_of_eight are = record {
     eight = length-set places count place ∙ eight;
     rest = λ s past. get_or-set_other places count s place 0 (omega arith) ∙ are.rest s (omega arith);
   }
@@ -60,9 +60,9 @@ module _ (gates pattern : List Gate) (places other : List ℕ) where
 
 -- The gate that is put in fits, and what it passes commutes with the gates before it: then all of them have grown.
 module _ (gates pattern : List Gate) (end : ℕ) (places : List ℕ) (count place : ℕ) where
-  pub grown_more : IsGrown gates pattern end places count → length places ≡ 8 → count < 8 → ((s : ℕ) → s < count → get_or places s 0 < place) → AreClear gates places count place →
+  one_more : IsGrown gates pattern end places count → length places ≡ 8 → count < 8 → ((s : ℕ) → s < count → get_or places s 0 < place) → AreClear gates places count place →
       place < end → IsFitting gates pattern (set places count place) count → IsGrown gates pattern end (set places count place) (count + 1)
-  grown_more grown eight room above clear inside fits = record {
+  one_more grown eight room above clear inside fits = record {
     rising = λ s t less below. rising s t less below (cases_order t count);
     inside = λ s below. within s below (cases_order s count);
     fitting = λ s below. fitting s below (cases_order s count);
@@ -129,21 +129,32 @@ module _ (gates pattern : List Gate) (end : ℕ) (places : List ℕ) (count plac
       commuting t t_below s p s_below passed more less (inr (inr t_more)) _ = absurd (omega arith)
       commuting t t_below s p s_below passed more less _ (inr (inr s_more)) = absurd (omega arith)
 
-  -- where the gate doesn't fit, nothing begins with it
-  pub nothing_fits : count < length pattern → ¬ IsFitting gates pattern places count → HasNoFull gates pattern end places (count + 1)
-  nothing_fits next misfit = record {
-    none = λ other full begins. misfit (fitting_same gates pattern other places count (λ s upto. begins s (omega arith)) (full.fitting count next));
-  }
+-- a place more of eight
+pub eight_more : {places : List ℕ} {count : ℕ} (place : ℕ) → AreEight places count → count < 8 → AreEight (set places count place) (count + 1)
+eight_more {places} {count} place are room = more_of_eight places count place are.eight room are
 
-  -- grown places that are all of the pattern's are the only ones that begin with them
-  pub grown_is_full : count + 1 ≡ length pattern → IsGrown gates pattern end places (count + 1) → AreEight places (count + 1) →
-      IsFirstFull gates pattern end places (count + 1) places
-  grown_is_full all grown are = record {
-    full = subst (IsGrown gates pattern end places) all grown;
-    begins = λ s below. refl;
-    first = λ other full begins before.
-        (let same : get_or other before.at 0 ≡ get_or places before.at 0 = begins before.at (let b : before.at < length pattern = before.below in omega arith) in
-        let less : get_or other before.at 0 < get_or places before.at 0 = before.less in
-        absurd (omega arith));
-    eight = subst (AreEight places) all are;
-  }
+-- a place more that fits
+pub grown_more : {gates pattern : List Gate} {end : ℕ} {places : List ℕ} {count place : ℕ} → IsGrown gates pattern end places count → AreEight places count → count < 8 →
+    IsNext gates places count place → place < end → IsFitting gates pattern (set places count place) count → IsGrown gates pattern end (set places count place) (count + 1)
+grown_more {gates} {pattern} {end} {places} {count} {place} grown are room next inside fits =
+    one_more gates pattern end places count place grown are.eight room next.above next.clear inside fits
+
+-- where the gate doesn't fit, nothing begins with it
+pub nothing_fits : {gates pattern : List Gate} {places : List ℕ} {count : ℕ} (end : ℕ) → count < length pattern → (IsFitting gates pattern places count → ⊥) →
+    HasNoFull gates pattern end places (count + 1)
+nothing_fits {gates} {pattern} {places} {count} end next misfit = record {
+  none = λ other full begins. misfit (fitting_same gates pattern other places count (λ s upto. begins s (omega arith)) (full.fitting count next));
+}
+
+-- grown places that are all of the pattern's are the only ones that begin with them
+pub grown_is_full : {gates pattern : List Gate} {end : ℕ} {places : List ℕ} (count : ℕ) → count + 1 ≡ length pattern → IsGrown gates pattern end places (count + 1) →
+    AreEight places (count + 1) → IsFirstFull gates pattern end places (count + 1) places
+grown_is_full {gates} {pattern} {end} {places} count all grown are = record {
+  full = subst (IsGrown gates pattern end places) all grown;
+  begins = λ s below. refl;
+  first = λ other full begins before.
+      (let same : get_or other before.at 0 ≡ get_or places before.at 0 = begins before.at (let b : before.at < length pattern = before.below in omega arith) in
+      let less : get_or other before.at 0 < get_or places before.at 0 = before.less in
+      absurd (omega arith));
+  eight = subst (AreEight places) all are;
+}

@@ -11,7 +11,8 @@ use Rattle.pq_gate.specs.Eighths.{eighths_of}
 use Rattle.pq_rules.specs.Kinds.{kind_of}
 use Rattle.pq_rules.specs.Renaming.{renamed}
 use Rattle.pq_match.specs.Redex.{gate_at, AreWires}
-use Rattle.pq_match.specs.Search.{wire_of, AreAlike}
+use Rattle.pq_match.specs.Wires.{wire_of}
+use Rattle.pq_match.specs.Search.{AreAlike}
 
 pub kind-renamed : (e : List ℕ) (p : Gate) → kind_of (renamed e p) ≡ kind_of p
 kind-renamed e (H wire) = refl
@@ -93,7 +94,8 @@ wires_apart n e are v w v_below w_below same = by (cases_order v w)
 
 -- renamed gates are alike the gates of the pattern
 pub renamed_alike : (n : ℕ) (e : List ℕ) → AreWires n e → (p q : Gate) → IsOnWires n p → IsOnWires n q → AreAlike p q (renamed e p) (renamed e q)
-renamed_alike n e are p q on_p on_q one other =
-    (λ same. wires_apart n e are (wire_of one p) (wire_of other q) (wire_below n p one on_p) (wire_below n q other on_q)
-    (sym (wire-renamed e one p) ∙ (same ∙ wire-renamed e other q)),
-    λ same. wire-renamed e one p ∙ (ap (λ (k : ℕ). get_or e k 0) same ∙ sym (wire-renamed e other q)))
+renamed_alike n e are p q on_p on_q one other = (
+  λ same. wires_apart n e are (wire_of one p) (wire_of other q) (wire_below n p one on_p) (wire_below n q other on_q)
+      (sym (wire-renamed e one p) ∙ (same ∙ wire-renamed e other q)),
+  λ same. wire-renamed e one p ∙ (ap (λ (k : ℕ). get_or e k 0) same ∙ sym (wire-renamed e other q)),
+)

@@ -11,7 +11,8 @@ use Rattle.pq_rules.specs.Kinds.{kind_of}
 use Rattle.pq_rules.specs.Renaming.{renamed}
 use Rattle.pq_rules.specs.Row.{Uses}
 use Rattle.pq_match.specs.Redex.{gate_at, last_place, is_chosen, AreWires, IsMatch, AreFree}
-use Rattle.pq_match.specs.Search.{wire_of, AreAlike, IsFitting, IsPassed, AreClear, IsGrown, IsFull}
+use Rattle.pq_match.specs.Wires.{wire_of}
+use Rattle.pq_match.specs.Search.{AreAlike, IsFitting, IsPassed, AreClear, IsGrown, IsFull}
 use Rattle.pq_match.proofs.SearchChoice.{IsChoice, choose}
 use Rattle.pq_match.proofs.SearchGates.{kind-renamed, wire_below, gate_on_wires, wire_used, renamed_by_wires, renamed_alike}
 use Rattle.pq_match.proofs.SearchPlaces.{last_place_at, place_upto_last, place_is_chosen, passed_not_chosen, StandsAt, chosen_stands, not_chosen_passed}
@@ -29,7 +30,7 @@ module _ (gates pattern : List Gate) (wires places : List ℕ) (matches : IsMatc
 
 -- these places are full.
 module _ (n : ℕ) (gates pattern : List Gate) (wires places : List ℕ) (circuit : IsCircuit n pattern) (are : AreWires n wires)
-  (matches : IsMatch gates pattern wires places) (free : AreFree gates places) where
+    (matches : IsMatch gates pattern wires places) (free : AreFree gates places) where
   whole : length places ≡ length pattern
   whole = match_whole gates pattern wires places matches
 
@@ -70,7 +71,7 @@ pub record GoesWith (gates pattern : List Gate) (places : List ℕ) (wire other 
 
 -- Full places are those of the pattern with its wires renamed.
 module _ (n : ℕ) (gates pattern : List Gate) (end : ℕ) (places : List ℕ) (circuit : IsCircuit n pattern) (used : (w : ℕ) → w < n → Uses pattern w)
-  (full : IsFull gates pattern end places) where
+    (full : IsFull gates pattern end places) where
   full_alike : (s t : ℕ) → s < length pattern → t < length pattern → (one other : Bool) →
       (wire_of one (gate_at gates (get_or places s 0)) ≡ wire_of other (gate_at gates (get_or places t 0)) → wire_of one (gate_at pattern s) ≡ wire_of other (gate_at pattern t)) ×
       (wire_of one (gate_at pattern s) ≡ wire_of other (gate_at pattern t) → wire_of one (gate_at gates (get_or places s 0)) ≡ wire_of other (gate_at gates (get_or places t 0)))
@@ -89,9 +90,10 @@ module _ (n : ℕ) (gates pattern : List Gate) (end : ℕ) (places : List ℕ) (
   partner w below =
       let user = used w below in
       let side = wire_used user.1 w user.4 in
-      let at : gate_at pattern user.0 ≡ user.1 = get_or_default pattern user.0 (H 0) user.1 user.2 ∙ user.3 in
-      (wire_of side.0 (gate_at gates (get_or places user.0 0)),
-      record { at = user.0; below = user.2; second = side.0; is = ap (wire_of side.0) at ∙ side.1; goes = refl })
+      let at : gate_at pattern user.0 ≡ user.1 = get_or_default pattern user.0 (H 0) user.1 user.2 ∙ user.3 in (
+        wire_of side.0 (gate_at gates (get_or places user.0 0)),
+        record { at = user.0; below = user.2; second = side.0; is = ap (wire_of side.0) at ∙ side.1; goes = refl },
+      )
 
   pub full_choice : IsChoice (GoesWith gates pattern places) n
   full_choice = choose (GoesWith gates pattern places) n partner

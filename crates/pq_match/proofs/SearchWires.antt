@@ -1,10 +1,11 @@
 use Rattle.std.proofs.Common.{◌≡◌, ℕ, Bool, true, false, sym, subst}
 use Rattle.pq_gate.specs.declared.gate.Gate.{Gate}
-use Rattle.pq_match.specs.Search.{wire_of, IsAlike, AreAlike}
+use Rattle.pq_match.specs.Wires.{wire_of}
+use Rattle.pq_match.specs.Search.{IsAlike, AreAlike}
 
 -- Two gates are alike where both wires of the first are.
 module _ (of_first of_second first second : Gate) (of_wire of_other wire other : ℕ) (of_wire_is : of_wire ≡ wire_of false of_first) (of_other_is : of_other ≡ wire_of true of_first)
-  (wire_is : wire ≡ wire_of false first) (other_is : other ≡ wire_of true first) where
+    (wire_is : wire ≡ wire_of false first) (other_is : other ≡ wire_of true first) where
   pub alike_by_both : IsAlike of_wire of_second wire second → IsAlike of_other of_second other second → AreAlike of_first of_second first second
   alike_by_both near far true =
       subst (λ (p : ℕ). IsAlike p of_second (wire_of true first) second) of_other_is (subst (λ (w : ℕ). IsAlike of_other of_second w second) other_is far)

@@ -69,7 +69,7 @@ first_from_here {rules} {gates} {span} {start} {redex} end ends before first = r
     first = λ other is other_within precedes. by other is other_within precedes (cases_order (get_or other.places 0 0) start);
   };
   padded = first.padded;
-  }
+}
   where
     at : get_or (seen redex first.wires).places 0 0 ≡ start
     at = first.among.0

@@ -1,7 +1,6 @@
 -- What the search for the first redex goes by: the places of a pattern's gates, without the wires.
-use Rattle.std.specs.Prelude.{◌≡◌, ◌≢◌, ℕ, ◌+◌, ◌<◌, ◌≤◌, ◌↔◌, Bool, cond, List, ◌∷◌, length, slice_index, Option, Some, None}
+use Rattle.std.specs.Prelude.{◌≡◌, ◌≢◌, ℕ, ◌+◌, ◌<◌, ◌≤◌, ◌↔◌, Bool, List, ◌∷◌, length, slice_index, Option, Some, None}
 use Rattle.pq_gate.specs.declared.gate.Gate.{Gate}
-use Rattle.pq_gate.specs.declared.gate.Gate.TheVariants.{H, X, Phase, Cx}
 use Rattle.pq_gate.specs.Commuting.{Commutes}
 use Rattle.pq_rules.specs.Kinds.{kind_of}
 use Rattle.pq_rules.specs.Row.{RowView}
@@ -9,13 +8,7 @@ use Rattle.pq_match.specs.declared.redex.Redex.{Redex}
 use Rattle.pq_match.specs.Redex.{RedexView, IsRedex, IsWithin, gate_at, last_place}
 use Rattle.pq_match.specs.First.{Precedes, key}
 use Rattle.pq_match.specs.Found.{seen, IsPadded}
-
--- A wire of the gate: of a CX the control, or else the target; of another gate its only wire both times.
-abbrev pub wire_of : Bool → Gate → ℕ
-wire_of second (H wire) = wire
-wire_of second (X wire) = wire
-wire_of second (Phase eighths wire) = wire
-wire_of second (Cx control target) = cond second target control
+use Rattle.pq_match.specs.Wires.{wire_of}
 
 -- a wire is one of the gate's wires exactly where the pattern's wire is that of the pattern's gate
 abbrev pub IsAlike : ℕ → Gate → ℕ → Gate → Type 0
@@ -25,7 +18,8 @@ IsAlike of_wire of_gate wire gate = (other : Bool) → (wire ≡ wire_of other g
 abbrev pub AreAlike : Gate → Gate → Gate → Gate → Type 0
 AreAlike of_first of_second first second = (one : Bool) → IsAlike (wire_of one of_first) of_second (wire_of one first) second
 
--- The gate at the last of `count` places fits to the pattern, as do its wires to those of the gates before it.
+-- The gate at the place with the number `last` is of the pattern's kind there, and its wires are equal to those of
+-- the gates before it where the pattern's are.
 pub record IsFitting (gates pattern : List Gate) (places : List ℕ) (last : ℕ) : Type 0 where
   pub kind : kind_of (gate_at gates (slice_index places last)) ≡ kind_of (gate_at pattern last)
   pub wires : (s : ℕ) → s ≤ last →
@@ -39,6 +33,15 @@ IsPassed places count place = (s : ℕ) → s < count → slice_index places s �
 abbrev pub AreClear : List Gate → List ℕ → ℕ → ℕ → Type 0
 AreClear gates places count end = (s place : ℕ) → s < count → IsPassed places count place → slice_index places s < place → place < end →
     Commutes (gate_at gates (slice_index places s)) (gate_at gates place)
+
+-- The place stands behind the first `count` places, and the gates between it and these may stay where they are.
+pub record IsNext (gates : List Gate) (places : List ℕ) (count place : ℕ) : Type 0 where
+  pub above : (s : ℕ) → s < count → slice_index places s < place
+  pub clear : AreClear gates places count place
+
+-- all of the first `count` gates commute with the gate at the place
+pub record IsPassable (gates : List Gate) (places : List ℕ) (count place : ℕ) : Type 0 where
+  pub commute : (s : ℕ) → s < count → Commutes (gate_at gates (slice_index places s)) (gate_at gates place)
 
 -- The first `count` of the places rise and lie before the end, and the gates there are those of the
 -- pattern but for the wires' names; each commutes with the gates passed over up to the last of them.

@@ -1,18 +1,17 @@
--- The wires of a gate, and where the wires of a row are led to.
-use Rattle.std.specs.Prelude.{ℕ}
+-- The wires of a gate.
+use Rattle.std.specs.Prelude.{ℕ, Bool, true, false, cond}
 use Rattle.pq_gate.specs.declared.gate.Gate.{Gate}
 use Rattle.pq_gate.specs.declared.gate.Gate.TheVariants.{H, X, Phase, Cx}
 
--- the control of a CX, and the wire of any other gate
-abbrev pub first_wire : Gate → ℕ
-first_wire (H wire) = wire
-first_wire (X wire) = wire
-first_wire (Phase eighths wire) = wire
-first_wire (Cx control target) = control
+-- A wire of the gate: of a CX the control, or else the target; of another gate its only wire both times.
+abbrev pub wire_of : Bool → Gate → ℕ
+wire_of second (H wire) = wire
+wire_of second (X wire) = wire
+wire_of second (Phase eighths wire) = wire
+wire_of second (Cx control target) = cond second target control
 
--- the target of a CX, and the wire of any other gate
+abbrev pub first_wire : Gate → ℕ
+first_wire gate = wire_of false gate
+
 abbrev pub second_wire : Gate → ℕ
-second_wire (H wire) = wire
-second_wire (X wire) = wire
-second_wire (Phase eighths wire) = wire
-second_wire (Cx control target) = target
+second_wire gate = wire_of true gate

@@ -8,6 +8,9 @@ mod rewrite;
 mod rewriting_tests;
 mod search;
 mod segment;
+#[cfg(test)]
+mod tests;
+mod wires;
 
 pub use redex::Redex;
 pub use search::{find_first, find_within};

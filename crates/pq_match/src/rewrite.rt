@@ -14,6 +14,7 @@ ghost use Rattle.pq_match.specs.Wires.{first_wire, second_wire};
 use crate::laws::rewriting_keeps_the_matrix;
 use crate::redex::Redex;
 use crate::segment::Seg;
+use crate::wires::wires_of;
 use pq_gate::Gate;
 use pq_rules::{Row, Rules};
 
@@ -84,17 +85,6 @@ fn lead(wires: &mut [u32; 3], gate: Gate, to: Gate)
     let (to_first, to_second) = wires_of(to);
     wires[first as usize] = to_first;
     wires[second as usize] = to_second;
-}
-
-/// The control and the target of a CX, and twice the wire of any other gate.
-fn wires_of(gate: Gate) -> (u32, u32)
-    ensures first { result.0 ≡ first_wire gate }
-    ensures second { result.1 ≡ second_wire gate }
-{
-    match gate {
-        Gate::H { wire } | Gate::X { wire } | Gate::Phase { wire, .. } => (wire, wire),
-        Gate::Cx { control, target } => (control, target),
-    }
 }
 
 /// Closes up the gates before `end` that aren't chosen, where the last chosen gate stands before `end`.

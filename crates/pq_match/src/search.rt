@@ -1,13 +1,11 @@
 ghost use Rattle.std.specs.Prelude.{◌≡◌, ℕ, ◌+◌, ◌<◌, ◌≤◌, ◌↔◌, IsTrue, true, false, length, slice_index, slice_set};
-ghost use Rattle.pq_gate.specs.Commuting.{Commutes};
 ghost use Rattle.pq_rules.specs.Kinds.{kind_of};
-ghost use Rattle.pq_rules.specs.Row.{IsSound};
 ghost use Rattle.pq_match.specs.Found.{FindsWithin};
-ghost use Rattle.pq_match.specs.Redex.{gate_at};
-ghost use Rattle.pq_match.specs.Search.{wire_of, IsAlike, AreAlike, IsFitting, AreClear, IsGrown, FindsFull, AreEight, FindsAmong, IsFrom, IsOfRow};
+ghost use Rattle.pq_match.specs.Search.{IsAlike, AreAlike, IsFitting, IsNext, IsPassable, IsGrown, FindsFull, AreEight, FindsAmong, IsFrom, IsOfRow};
 
 use crate::redex::Redex;
 use crate::segment::Seg;
+use crate::wires::wires_of;
 use pq_gate::{Gate, commutes};
 use pq_rules::Rules;
 
@@ -33,15 +31,15 @@ pub fn find_within(gates: &[Gate], rules: &Rules, span: u32) -> Option<Redex>
     let len = gates.len() as u32;
     for start in 0..len {
         let end = len.min(start.saturating_add(span));
-        if let Some(redex) = find_from(gates, rules, start, end) {
-            return Some(redex);
+        if let Some(first) = find_from(gates, rules, start, end) {
+            return Some(first);
         }
     }
     None
 }
 
-#[tactic(auto, using(crate::proofs::SearchFrom::none_tried, crate::proofs::SearchFrom::tried_more, crate::proofs::SearchFrom::tried_first))]
 // the first redex whose first place is the start and whose places all lie before the end
+#[tactic(auto, using(crate::proofs::SearchFrom::none_tried, crate::proofs::SearchFrom::tried_more, crate::proofs::SearchFrom::tried_first))]
 fn find_from(gates: &[Gate], rules: &Rules, start: u32, end: u32) -> Option<Redex>
     requires few { length gates.now ≤ 1048576 }
     requires start { start < end }
@@ -79,15 +77,22 @@ fn find_row(gates: &[Gate], rules: &Rules, number: u32, start: u32, end: u32) ->
 
 // Chooses this place for the next gate of the pattern, and the least places for the others.
 #[cycle(growing)]
-fn extend_at(gates: &[Gate], pattern: &[Gate], end: u32, places: [u32; 8], count: usize, place: u32) -> Option<[u32; 8]>
+#[tactic(auto, using(crate::proofs::Growing::nothing_fits))]
+fn extend_at(
+    gates: &[Gate],
+    pattern: &[Gate],
+    end: u32,
+    places: [u32; 8],
+    count: usize,
+    place: u32,
+) -> Option<[u32; 8]>
     requires few { length gates.now ≤ 1048576 }
     requires short { length pattern.now ≤ 8 }
     requires end { end ≤ length gates.now }
     requires next { count < length pattern.now }
     requires place { place < end }
     requires grown { IsGrown gates.now pattern.now end places count }
-    requires above { (s : ℕ) → s < count → slice_index places s < place }
-    requires clear { AreClear gates.now places count place }
+    requires behind { IsNext gates.now places count place }
     requires eight { AreEight places count }
     ensures { FindsFull gates.now pattern.now end (slice_set places count place) (count + 1) result }
 {
@@ -104,7 +109,14 @@ fn extend_at(gates: &[Gate], pattern: &[Gate], end: u32, places: [u32; 8], count
 
 // Chooses the least places for the gates of the pattern that have none yet.
 #[cycle(growing)]
-fn extend(gates: &[Gate], pattern: &[Gate], end: u32, places: [u32; 8], count: usize) -> Option<[u32; 8]>
+#[tactic(auto, using(crate::proofs::GrowingWalk::walk_starts, crate::proofs::GrowingWalk::walk_goes_on, crate::proofs::GrowingWalk::walk_is_stuck, crate::proofs::GrowingWalk::walk_ends))]
+fn extend(
+    gates: &[Gate],
+    pattern: &[Gate],
+    end: u32,
+    places: [u32; 8],
+    count: usize,
+) -> Option<[u32; 8]>
     requires few { length gates.now ≤ 1048576 }
     requires short { length pattern.now ≤ 8 }
     requires end { end ≤ length gates.now }
@@ -127,8 +139,8 @@ fn extend(gates: &[Gate], pattern: &[Gate], end: u32, places: [u32; 8], count: u
 
 // whether the gate at the last of the places fits to the pattern, and to the gates before it
 fn fits(gates: &[Gate], pattern: &[Gate], places: &[u32; 8], last: usize) -> bool
-    requires short { last < length pattern.now }
-    requires eight { length pattern.now ≤ 8 }
+    requires next { last < length pattern.now }
+    requires short { length pattern.now ≤ 8 }
     requires inside { (s : ℕ) → s ≤ last → slice_index places.now s < length gates.now }
     ensures { IsTrue result ↔ IsFitting gates.now pattern.now places.now last }
 {
@@ -149,7 +161,7 @@ fn is_passable(gates: &[Gate], places: &[u32; 8], count: usize, place: u32) -> b
     requires few { count ≤ 8 }
     requires place { place < length gates.now }
     requires inside { (s : ℕ) → s < count → slice_index places.now s < length gates.now }
-    ensures { IsTrue result ↔ ((s : ℕ) → s < count → Commutes (gate_at gates.now (slice_index places.now s)) (gate_at gates.now place)) }
+    ensures { IsTrue result ↔ IsPassable gates.now places.now count place }
 {
     for s in 0..count {
         if !commutes(gates[places[s] as usize], gates[place as usize]) {
@@ -163,8 +175,8 @@ fn is_passable(gates: &[Gate], places: &[u32; 8], count: usize, place: u32) -> b
 fn are_alike(of_first: Gate, of_second: Gate, first: Gate, second: Gate) -> bool
     ensures { IsTrue result ↔ AreAlike of_first of_second first second }
 {
-    let (of_wire, of_other) = wires(of_first);
-    let (wire, other) = wires(first);
+    let (of_wire, of_other) = wires_of(of_first);
+    let (wire, other) = wires_of(first);
     is_alike(of_wire, of_second, wire, second) && is_alike(of_other, of_second, other, second)
 }
 
@@ -172,20 +184,9 @@ fn are_alike(of_first: Gate, of_second: Gate, first: Gate, second: Gate) -> bool
 fn is_alike(of_wire: u32, of_gate: Gate, wire: u32, gate: Gate) -> bool
     ensures { IsTrue result ↔ IsAlike of_wire of_gate wire gate }
 {
-    let (p, q) = wires(of_gate);
-    let (v, w) = wires(gate);
+    let (p, q) = wires_of(of_gate);
+    let (v, w) = wires_of(gate);
     (wire == v) == (of_wire == p) && (wire == w) == (of_wire == q)
-}
-
-// the wires that the gate uses: one twice, if it uses one only
-fn wires(gate: Gate) -> (u32, u32)
-    ensures first { result.0 ≡ wire_of false gate }
-    ensures second { result.1 ≡ wire_of true gate }
-{
-    match gate {
-        Gate::H { wire } | Gate::X { wire } | Gate::Phase { wire, .. } => (wire, wire),
-        Gate::Cx { control, target } => (control, target),
-    }
 }
 
 // whether the gates are of one kind: phases, by the same eighths

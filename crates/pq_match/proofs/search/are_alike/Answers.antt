@@ -3,15 +3,17 @@ use Rattle.pq_match.proofs.SearchWires.{alike_by_both, first_alike, second_alike
 use Rattle.pq_match.proofs.search.are_alike.Goals as goal
 
 pub returns-then-is_alike : goal.returns-then-is_alike
-returns-then-is_alike c =
-    (λ yes. alike_by_both c.args.of_first c.args.of_second c.args.first c.args.second _ _ _ _
-    c.wires-of_wire.ensures.first c.wires-of_wire.ensures.second c.wires-wire.ensures.first c.wires-wire.ensures.second
-    (c.is_alike.ensures.0 c.if-is_alike.true) (c.is_alike-then-is_alike.ensures.0 yes),
-    λ alike. c.is_alike-then-is_alike.ensures.1 (second_alike c.args.of_first c.args.of_second c.args.first c.args.second _ _ _ _
-    c.wires-of_wire.ensures.first c.wires-of_wire.ensures.second c.wires-wire.ensures.first c.wires-wire.ensures.second alike))
+returns-then-is_alike c = (
+  λ yes. alike_by_both c.args.of_first c.args.of_second c.args.first c.args.second _ _ _ _
+      c.wires_of-of_wire.ensures.first c.wires_of-of_wire.ensures.second c.wires_of-wire.ensures.first c.wires_of-wire.ensures.second
+      (c.is_alike.ensures.0 c.if-is_alike.true) (c.is_alike-then-is_alike.ensures.0 yes),
+  λ alike. c.is_alike-then-is_alike.ensures.1 (second_alike c.args.of_first c.args.of_second c.args.first c.args.second _ _ _ _
+      c.wires_of-of_wire.ensures.first c.wires_of-of_wire.ensures.second c.wires_of-wire.ensures.first c.wires_of-wire.ensures.second alike),
+)
 
 pub returns-else-is_alike : goal.returns-else-is_alike
-returns-else-is_alike c =
-    (λ yes. absurd (cc),
-    λ alike. c.is_alike.ensures.1 (first_alike c.args.of_first c.args.of_second c.args.first c.args.second _ _ _ _
-    c.wires-of_wire.ensures.first c.wires-of_wire.ensures.second c.wires-wire.ensures.first c.wires-wire.ensures.second alike))
+returns-else-is_alike c = (
+  λ yes. absurd (cc),
+  λ alike. c.is_alike.ensures.1 (first_alike c.args.of_first c.args.of_second c.args.first c.args.second _ _ _ _
+      c.wires_of-of_wire.ensures.first c.wires_of-of_wire.ensures.second c.wires_of-wire.ensures.first c.wires_of-wire.ensures.second alike),
+)

@@ -8,8 +8,10 @@ pub loop-s-preserved : goal.loop-s-preserved
 loop-s-preserved c = below_more _ _ c.loop-s.invariant (c.if-not-are_alike.ensures.0 refl)
 
 pub returns-else-not-are_alike : goal.returns-else-not-are_alike
-returns-else-not-are_alike c =
-    (λ yes. record {
-      kind = c.if-not-are_of_one_kind.ensures.0 refl;
-      wires = λ s upto. below_more _ _ c.loop-s.invariant (c.if-not-are_alike.ensures.0 refl) s (omega arith);
-    }, λ fit. refl)
+returns-else-not-are_alike c = (
+  λ yes. record {
+    kind = c.if-not-are_of_one_kind.ensures.0 refl;
+    wires = λ s upto. below_more _ _ c.loop-s.invariant (c.if-not-are_alike.ensures.0 refl) s (omega arith);
+  },
+  λ fit. refl,
+)

@@ -1,0 +1,139 @@
+use crate::{Redex, Seg, find_first, find_within};
+use pq_gate::{Eighths, Gate};
+use pq_rules::Rules;
+use std::alloc::{AllocError, Global};
+use std::process::Abort;
+use std::test::Fail;
+
+// The gate of a short word: `h0` is H on wire 0, `c01` the CX with control 0 and target 1, `S0` the
+// inverse of S and `T0` that of T.
+fn gate_of(word: &[u8]) -> Option<Gate> {
+    match word {
+        [kind, wire] => gate_on(*kind, u32::from(*wire)),
+        [_, control, target] => Some(Gate::Cx {
+            control: u32::from(*control),
+            target: u32::from(*target),
+        }),
+        _ => None,
+    }
+}
+
+fn gate_on(kind: u8, wire: u32) -> Option<Gate> {
+    let eighths = match kind {
+        b'h' => return Some(Gate::H { wire }),
+        b'x' => return Some(Gate::X { wire }),
+        b't' => Eighths::T,
+        b's' => Eighths::S,
+        b'z' => Eighths::Z,
+        b'S' => Eighths::Sdg,
+        b'T' => Eighths::Tdg,
+        _ => return None,
+    };
+    Some(Gate::Phase { eighths, wire })
+}
+
+fn gates_of(alloc: Global, text: &str) -> Result<Vec<Gate>, AllocError> {
+    let mut gates = Vec::new(alloc);
+    for word in text.split(' ') {
+        if let Some(gate) = gate_of(word.as_bytes()) {
+            gates.push(gate)?;
+        }
+    }
+    Ok(gates)
+}
+
+// The number of the row and the places, as in `4 at 0 2`.
+fn told(alloc: Global, found: Option<Redex>) -> Result<String, AllocError> {
+    let Some(redex) = found else {
+        return String::from_str(alloc, "none");
+    };
+    let mut text = format!(in alloc; "{} at", redex.row)?;
+    for place in redex.places.iter().take(usize::from(redex.count)) {
+        let more = format!(in alloc; " {place}")?;
+        text.push_str(&more)?;
+    }
+    Ok(text)
+}
+
+fn first_is(
+    rt: &(impl Abort + AllocGlobal),
+    rules: &Rules,
+    list: &str,
+    span: u32,
+    expected: &str,
+) -> Result<(), AllocError> {
+    let gates = gates_of(rt.alloc(), list)?;
+    assert!(rt; gates.len() < 100);
+    let found = told(rt.alloc(), find_within(&gates, rules, span))?;
+    assert!(rt; found.as_str() == expected, "{list} within {span}: {found}");
+    Ok(())
+}
+
+#[test]
+fn first_redexes_of_small_lists(rt: HostRuntime) -> Result<(), Fail> {
+    let rules = Rules::builtin(rt.alloc())?;
+    for (list, span, expected) in [
+        ("", 9, "none"),
+        ("h0", 9, "none"),
+        ("h0 h0", 9, "1 at 0 1"),
+        ("h0 h1", 9, "none"),
+        ("x3 x3", 9, "2 at 0 1"),
+        ("c01 c01", 9, "3 at 0 1"),
+        ("c01 c10", 9, "none"),
+        ("t0 t0 t0", 9, "4 at 0 1"),
+        ("t0 T0 t0", 9, "4 at 0 2"),
+        ("t0 S0 T0", 9, "5 at 0 1"),
+        ("t1 h0 t0 h0 T1", 9, "6 at 0 4"),
+        ("s0 z1 z1 s0", 9, "7 at 0 3"),
+        ("h0 t0 h0", 9, "none"),
+        ("h0 h1 h0 h1", 9, "1 at 0 2"),
+        ("t0 c01 t0", 9, "4 at 0 2"),
+        ("t1 c01 t1", 9, "none"),
+        ("x1 c01 x1", 9, "2 at 0 2"),
+        ("x0 c01 x0", 9, "44 at 0 1 2"),
+        ("x0 c01 x0 x0", 9, "44 at 0 1 2"),
+        ("z1 c01 z1", 9, "45 at 0 1 2"),
+        ("z0 c01 z0", 9, "12 at 0 2"),
+        ("h0 h1 c01 h0 h1", 9, "46 at 0 1 2 3 4"),
+        ("h0 h1 c01 h1 h0", 9, "47 at 0 1 2 3 4"),
+        ("h1 h0 c01 h0 h1", 9, "48 at 0 1 2 3 4"),
+        ("h1 h0 c01 h1 h0", 9, "49 at 0 1 2 3 4"),
+        ("h0 h1 c10 h0 h1", 9, "49 at 0 1 2 3 4"),
+        ("c01 c12 c01", 9, "50 at 0 1 2"),
+        ("c12 c01 c12", 9, "51 at 0 1 2"),
+        ("c01 c10 c01 c10", 9, "52 at 0 1 2 3"),
+        ("c01 c12 c03 c01", 9, "50 at 0 1 3"),
+        ("x0 c01 c02 x0", 9, "none"),
+        ("h0 x0 h0", 9, "21 at 0 1 2"),
+        ("h0 x1 x0 h1 h0 h1", 9, "21 at 0 2 4"),
+        ("x0 T0 x0", 9, "27 at 0 1 2"),
+        ("t0 h0 s0 h0 t0", 9, "32 at 0 1 2 3"),
+        ("h0 s0 h0 z0 t0", 9, "30 at 0 1 2 3"),
+        ("h0 s0 h0 s0", 4, "29 at 0 1 2 3"),
+        ("h0 s0 h0 s0", 3, "none"),
+        ("t0 h1 t0", 3, "4 at 0 2"),
+        ("t0 h1 t0", 2, "none"),
+        ("h0 h0", 1, "none"),
+        ("h0 h0", 0, "none"),
+        ("t0 h1 h1 t0", 3, "1 at 1 2"),
+        ("z0 s0 s0", 9, "11 at 0 1"),
+        ("S0 S0 S0", 9, "17 at 0 1"),
+        ("c01 t0 c21 c01 t0", 9, "3 at 0 3"),
+        ("x0 t1 x0 t1 t0", 9, "2 at 0 2"),
+    ] {
+        first_is(&rt, &rules, list, span, expected)?;
+    }
+    Ok(())
+}
+
+#[test]
+fn a_segment_is_searched_to_its_end(rt: HostRuntime) -> Result<(), Fail> {
+    let rules = Rules::builtin(rt.alloc())?;
+    let mut seg = Seg::reserve(rt.alloc(), 3)?;
+    seg.push(Gate::H { wire: 7 });
+    seg.push(Gate::X { wire: 2 });
+    seg.push(Gate::H { wire: 7 });
+    let found = told(rt.alloc(), find_first(&seg, &rules))?;
+    assert!(rt; found.as_str() == "1 at 0 2");
+    Ok(())
+}
