@@ -1,4 +1,4 @@
-use Rattle.std.proofs.Common.{◌≡◌, ◌≢◌, ℕ, ◌+◌, ◌-◌, ◌<◌, ◌≤◌, List, length, get_or, set, Option, Some, None, refl, sym, ap, subst, ◌∙◌, arith, inl, inr, ◌⊎◌}
+use Rattle.std.proofs.Common.{◌≡◌, ℕ, ◌+◌, ◌<◌, ◌≤◌, List, length, get_or, set, refl, sym, ap, subst, ◌∙◌, arith, inl, inr, ◌⊎◌}
 use Rattle.std.proofs.lemmas.Bool.{cases_order}
 use Rattle.std.proofs.lemmas.Grind.{get_or-set_at}
 use Rattle.std.proofs.lemmas.List.{length-set, get_or-set_other}
@@ -6,7 +6,7 @@ use Rattle.pq_gate.specs.declared.gate.Gate.{Gate}
 use Rattle.pq_gate.specs.Commuting.{Commutes}
 use Rattle.pq_rules.specs.Kinds.{kind_of}
 use Rattle.pq_match.specs.Redex.{gate_at}
-use Rattle.pq_match.specs.Search.{AreAlike, IsFitting, IsPassed, AreClear, IsNext, IsGrown, IsFull, Begins, IsBefore, AreEight, IsFirstFull, HasNoFull}
+use Rattle.pq_match.specs.Search.{AreAlike, IsFitting, IsPassed, AreClear, IsNext, IsGrown, Begins, AreEight, IsFirstFull, HasNoFull}
 
 -- Putting a place behind the first `count` of eight.
 module _ (places : List ℕ) (count place : ℕ) (eight : length places ≡ 8) (room : count < 8) where

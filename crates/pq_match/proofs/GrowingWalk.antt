@@ -1,9 +1,9 @@
-use Rattle.std.proofs.Common.{◌≡◌, ◌≢◌, ℕ, ◌+◌, ◌-◌, ◌<◌, ◌≤◌, List, length, get_or, set, Option, Some, None, refl, sym, ap, subst, ◌∙◌, arith, inl, inr, ◌⊎◌}
+use Rattle.std.proofs.Common.{◌≡◌, ◌≢◌, ℕ, ◌+◌, ◌-◌, ◌<◌, ◌≤◌, List, length, get_or, set, sym, ap, subst, ◌∙◌, arith, inl, inr, ◌⊎◌}
 use Rattle.std.proofs.lemmas.Bool.{cases_order}
 use Rattle.pq_gate.specs.declared.gate.Gate.{Gate}
 use Rattle.pq_gate.specs.Commuting.{Commutes}
 use Rattle.pq_match.specs.Redex.{gate_at}
-use Rattle.pq_match.specs.Search.{IsPassed, AreClear, IsNext, IsPassable, IsGrown, IsFull, Begins, IsBefore, AreEight, IsFirstFull, HasNoFull}
+use Rattle.pq_match.specs.Search.{IsPassed, IsNext, IsPassable, IsGrown, IsFull, Begins, IsBefore, AreEight, IsFirstFull, HasNoFull}
 use Rattle.pq_match.proofs.Growing.{begins_front, begins_at, begins_more}
 
 -- The gates up to a place were passed over: they commute with the chosen ones, and no full match has its next gate there.

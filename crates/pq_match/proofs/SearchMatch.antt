@@ -1,21 +1,20 @@
-use Rattle.std.proofs.Common.{◌≡◌, ◌≢◌, ℕ, ◌+◌, ◌-◌, ◌<◌, ◌≤◌, ◌⊎◌, inl, inr, Bool, true, false, List, [], ◌∷◌, map, length, get_or, refl, sym, ap, subst, ◌∙◌, arith}
-use Rattle.std.specs.List.{All, AllPairs, Any}
+use Rattle.std.proofs.Common.{◌≡◌, ℕ, ◌-◌, ◌<◌, ◌≤◌, ◌⊎◌, inl, inr, Bool, List, map, length, get_or, refl, sym, ap, subst, ◌∙◌, arith}
 use Rattle.std.proofs.lemmas.Bool.{cases_order}
 use Rattle.std.proofs.lemmas.List.{get_or-map, get_or_default, length-map, ext_get_or}
 use Rattle.std.proofs.lemmas.Grind.{get_or_default_zero}
 use Rattle.pq_gate.specs.declared.gate.Gate.{Gate}
 use Rattle.pq_gate.specs.declared.gate.Gate.TheVariants.{H}
-use Rattle.pq_gate.specs.Circuit.{IsOnWires, IsCircuit}
+use Rattle.pq_gate.specs.Circuit.{IsCircuit}
 use Rattle.pq_gate.specs.Commuting.{Commutes}
 use Rattle.pq_rules.specs.Kinds.{kind_of}
 use Rattle.pq_rules.specs.Renaming.{renamed}
 use Rattle.pq_rules.specs.Row.{Uses}
-use Rattle.pq_match.specs.Redex.{gate_at, last_place, is_chosen, AreWires, IsMatch, AreFree}
+use Rattle.pq_match.specs.Redex.{gate_at, last_place, AreWires, IsMatch, AreFree}
 use Rattle.pq_match.specs.Wires.{wire_of}
-use Rattle.pq_match.specs.Search.{AreAlike, IsFitting, IsPassed, AreClear, IsGrown, IsFull}
+use Rattle.pq_match.specs.Search.{AreAlike, IsFitting, IsPassed, IsFull}
 use Rattle.pq_match.proofs.SearchChoice.{IsChoice, choose}
 use Rattle.pq_match.proofs.SearchGates.{kind-renamed, wire_below, gate_on_wires, wire_used, renamed_by_wires, renamed_alike}
-use Rattle.pq_match.proofs.SearchPlaces.{last_place_at, place_upto_last, place_is_chosen, passed_not_chosen, StandsAt, chosen_stands, not_chosen_passed}
+use Rattle.pq_match.proofs.SearchPlaces.{last_place_at, place_upto_last, place_is_chosen, passed_not_chosen, chosen_stands, not_chosen_passed}
 
 -- At places where a renamed pattern stands,
 module _ (gates pattern : List Gate) (wires places : List ℕ) (matches : IsMatch gates pattern wires places) where

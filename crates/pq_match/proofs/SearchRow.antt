@@ -1,14 +1,12 @@
-use Rattle.std.proofs.Common.{◌≡◌, ◌≢◌, ℕ, zero, suc, ◌+◌, ◌-◌, ◌<◌, ◌≤◌, ◌⊎◌, inl, inr, List, ◌∷◌, length, get_or, take, drop, Option, Some, None, refl, sym, ap, subst, ◌∙◌, arith, length-take, length-drop}
+use Rattle.std.proofs.Common.{◌≡◌, ℕ, zero, suc, ◌+◌, ◌-◌, ◌<◌, ◌≤◌, inl, inr, List, ◌∷◌, length, get_or, take, drop, Some, refl, sym, ap, subst, ◌∙◌, arith, length-take}
 use Rattle.std.specs.List.{All}
 use Rattle.std.proofs.lemmas.List.{get_or-take, get_or-drop}
 use Rattle.std.proofs.lemmas.Grind.{get_or_default_zero}
 use Rattle.pq_gate.specs.declared.gate.Gate.{Gate}
 use Rattle.pq_rules.specs.Kinds.{row_numbered}
 use Rattle.pq_rules.specs.Row.{RowView, IsSound}
-use Rattle.pq_match.specs.declared.redex.Redex.{Redex}
 use Rattle.pq_match.specs.Redex.{RedexView, IsRedex, IsMatch, AreWires, last_place}
 use Rattle.pq_match.specs.First.{Precedes, key}
-use Rattle.pq_match.specs.Found.{seen, IsPadded}
 use Rattle.pq_match.specs.Search.{IsFull, Begins, IsFirstFull, HasNoFull, HasNoneAmong, IsFirstAmong, IsOfRow}
 use Rattle.pq_match.proofs.Growing.{grown_same}
 use Rattle.pq_match.proofs.SearchChoice.{IsChoice}

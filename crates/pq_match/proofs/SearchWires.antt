@@ -1,4 +1,4 @@
-use Rattle.std.proofs.Common.{◌≡◌, ℕ, Bool, true, false, sym, subst}
+use Rattle.std.proofs.Common.{◌≡◌, ℕ, true, false, sym, subst}
 use Rattle.pq_gate.specs.declared.gate.Gate.{Gate}
 use Rattle.pq_match.specs.Wires.{wire_of}
 use Rattle.pq_match.specs.Search.{IsAlike, AreAlike}

@@ -1,11 +1,11 @@
-use Rattle.std.proofs.Common.{◌≡◌, ℕ, zero, suc, ◌+◌, ◌-◌, ◌<◌, ◌≤◌, ◌⊎◌, inl, inr, List, ◌∷◌, length, get_or, Option, Some, None, refl, sym, ap, subst, ◌∙◌, arith}
+use Rattle.std.proofs.Common.{◌≡◌, ℕ, ◌+◌, ◌-◌, ◌<◌, ◌≤◌, ◌⊎◌, inl, inr, List, length, get_or, arith}
 use Rattle.std.proofs.lemmas.Bool.{cases_order}
 use Rattle.pq_gate.specs.declared.gate.Gate.{Gate}
 use Rattle.pq_rules.specs.Row.{RowView}
 use Rattle.pq_match.specs.declared.redex.Redex.{Redex}
 use Rattle.pq_match.specs.Redex.{RedexView, IsRedex, IsWithin, last_place}
 use Rattle.pq_match.specs.First.{Precedes, key, HasNoneWithin}
-use Rattle.pq_match.specs.Found.{seen, IsFirstFound, FindsWithin}
+use Rattle.pq_match.specs.Found.{seen, IsFirstFound}
 use Rattle.pq_match.specs.Search.{IsFirstAmong, HasNoneAmong, IsFrom}
 use Rattle.pq_match.proofs.SearchPlaces.{last_place_at, place_upto_last}
 

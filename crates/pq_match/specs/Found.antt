@@ -1,5 +1,5 @@
 -- Redexes as they are handed on.
-use Rattle.std.specs.Prelude.{◌≡◌, ℕ, ◌≤◌, List, length, take, drop, All, Option, None, Some}
+use Rattle.std.specs.Prelude.{◌≡◌, ℕ, ◌≤◌, List, take, drop, All, Option, None, Some}
 use Rattle.pq_gate.specs.declared.gate.Gate.{Gate}
 use Rattle.pq_rules.specs.Row.{RowView}
 use Rattle.pq_match.specs.declared.redex.Redex.{Redex}

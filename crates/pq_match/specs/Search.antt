@@ -1,11 +1,11 @@
 -- What the search for the first redex goes by: the places of a pattern's gates, without the wires.
-use Rattle.std.specs.Prelude.{◌≡◌, ◌≢◌, ℕ, ◌+◌, ◌<◌, ◌≤◌, ◌↔◌, Bool, List, ◌∷◌, length, slice_index, Option, Some, None}
+use Rattle.std.specs.Prelude.{◌≡◌, ◌≢◌, ℕ, ◌<◌, ◌≤◌, ◌↔◌, Bool, List, length, slice_index, Option, Some, None}
 use Rattle.pq_gate.specs.declared.gate.Gate.{Gate}
 use Rattle.pq_gate.specs.Commuting.{Commutes}
 use Rattle.pq_rules.specs.Kinds.{kind_of}
 use Rattle.pq_rules.specs.Row.{RowView}
 use Rattle.pq_match.specs.declared.redex.Redex.{Redex}
-use Rattle.pq_match.specs.Redex.{RedexView, IsRedex, IsWithin, gate_at, last_place}
+use Rattle.pq_match.specs.Redex.{RedexView, IsRedex, gate_at, last_place}
 use Rattle.pq_match.specs.First.{Precedes, key}
 use Rattle.pq_match.specs.Found.{seen, IsPadded}
 use Rattle.pq_match.specs.Wires.{wire_of}

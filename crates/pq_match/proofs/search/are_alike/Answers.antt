@@ -1,4 +1,3 @@
-use Rattle.std.proofs.Common.{refl}
 use Rattle.pq_match.proofs.SearchWires.{alike_by_both, first_alike, second_alike}
 use Rattle.pq_match.proofs.search.are_alike.Goals as goal
 

@@ -1,6 +1,5 @@
-use Rattle.std.proofs.Common.{◌≡◌, ℕ, List, [], ◌∷◌, length, Option, Some, None, refl, sym, ap, subst, ◌∙◌}
+use Rattle.std.proofs.Common.{List, [], ◌∷◌, length, refl, sym, subst}
 use Rattle.pq_gate.specs.declared.gate.Gate.{Gate}
-use Rattle.pq_rules.specs.Kinds.{row_numbered}
 use Rattle.pq_match.specs.Search.{HasNoFull, IsFirstFull, IsFirstAmong, IsOfRow}
 use Rattle.pq_match.proofs.SearchRow.{none_of_row, first_of_row}
 use Rattle.pq_match.proofs.search.find_row.Goals as goal
