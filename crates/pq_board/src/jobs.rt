@@ -1,0 +1,76 @@
+ghost use Rattle.std.specs.Prelude.{◌≡◌, ◌<◌, ◌≤◌, [], ◌∷◌, ◌++◌, length, OnOk, OnErr, slice_index_or};
+ghost use Rattle.std.specs.List.{concat};
+ghost use Rattle.std.specs.List.Sorted.{IsStrictlyIncreasing};
+ghost use Rattle.pq_board.specs.Jobs.{lists_from};
+
+use std::alloc::{AllocError, Global};
+use std::marker::Model;
+
+/// The most jobs that there are.
+pub const MAX_JOBS: u64 = 1_048_576;
+
+/// Jobs: at most 1,048,576 lists of places, strictly increasing when they are read in order, so that no
+/// place stands twice. A job may be empty. Contracts see the list of the lists.
+#[derive(Drop)]
+pub struct Jobs {
+    places: Vec<u64>,
+
+    // for each job, how many places there are up to its end
+    ends: Vec<u64>,
+}
+
+impl Model for Jobs {
+    ghost use Rattle.std.specs.Prelude.{ℕ, ◌≤◌, List, length};
+    ghost use Rattle.std.specs.List.Sorted.{IsStrictlyIncreasing};
+    ghost use Rattle.pq_board.specs.Jobs.{lists_from, AreEnds};
+
+    ghost Value = { List (List ℕ) };
+
+    ghost view = { λ a. lists_from 0 a.places.items a.ends.items };
+
+    ghost invariant = { λ a. AreEnds 0 a.places.items a.ends.items × IsStrictlyIncreasing a.places.items × (length a.ends.items ≤ 1048576) };
+}
+
+impl Jobs {
+    /// No job. It takes no memory.
+    pub fn new(alloc: Global) -> Jobs
+        ensures { result ≡ [] }
+    {
+        Jobs {
+            places: Vec::new(alloc),
+            ends: Vec::new(alloc),
+        }
+    }
+
+    /// Adds a job behind the others. Where memory is refused, the jobs are as they were.
+    pub fn add(&mut self, places: &[u64]) -> Result<(), AllocError>
+        requires rising { IsStrictlyIncreasing (concat self.old ++ places.now) }
+        requires few { length self.old < MAX_JOBS }
+        ensures added { OnOk result (self.new ≡ self.old ++ places.now ∷ []) }
+        ensures unchanged { OnErr result (self.new ≡ self.old) }
+    {
+        self.ends.reserve(1)?;
+        self.places.extend_from_slice(places)?;
+        self.ends.push_reserved(self.places.len() as u64);
+        Ok(())
+    }
+
+    /// How many jobs there are.
+    pub fn count(&self) -> u64
+        ensures count { result ≡ length self.now }
+        ensures few { result ≤ MAX_JOBS }
+    {
+        self.ends.len() as u64
+    }
+
+    /// The places of a job, which are numbered from 0.
+    pub fn places(&self, job: u64) -> &[u64]
+        requires { job < length self.now }
+        ensures places { result.now ≡ slice_index_or self.now job [] }
+        ensures rising { IsStrictlyIncreasing result.now }
+    {
+        let job = job as usize;
+        let start = if job == 0 { 0 } else { self.ends[job - 1] };
+        &self.places[start as usize..self.ends[job] as usize]
+    }
+}

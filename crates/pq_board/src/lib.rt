@@ -1,0 +1,6 @@
+//! What the workers of a round share: the jobs, which are lists of places.
+#![tactic(auto)]
+
+mod jobs;
+
+pub use jobs::{Jobs, MAX_JOBS};

@@ -1,0 +1,7 @@
+pub use Rattle.pq_gate.specs.Circuit
+pub use Rattle.pq_gate.specs.Matrix
+pub use Rattle.pq_finger.specs.Gaps
+pub use Rattle.pq_match.specs.Redex
+pub use Rattle.pq_oracle.specs.Ora
+pub mod Round
+pub mod Opt

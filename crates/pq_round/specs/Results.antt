@@ -1,0 +1,24 @@
+-- The results of a round.
+use Rattle.std.specs.Prelude.{◌≡◌, ℕ, ◌<◌, Option, None, List, [], length, slice_index_or}
+use Rattle.std.specs.List.{filter_map}
+use Rattle.pq_gate.specs.declared.gate.Gate.{Gate}
+use Rattle.pq_rules.specs.Row.{RowView}
+use Rattle.pq_oracle.specs.Ora.{Ora}
+use Rattle.pq_oracle.specs.Outcomes.{WorkedView}
+
+-- the gates at some places
+abbrev pub gates_at : List (Option Gate) → List ℕ → List Gate
+gates_at cells places = filter_map (λ place. slice_index_or cells place None) places
+
+-- a segment that was worked: under this ticket, of the gates at these places, under these rules
+pub record IsResultOf (cells : List (Option Gate)) (places : List ℕ) (rules : List RowView) (ticket : ℕ) (worked : WorkedView) : Type 0 where
+  pub ticket_is : worked.ticket ≡ ticket
+  pub input_is : worked.input ≡ gates_at cells places
+  pub rules_are : worked.rules ≡ rules
+  pub oracle : Ora rules (gates_at cells places) worked.answer
+
+-- one result for each job, in their order; the tickets are the jobs' numbers
+pub record AreResults (cells : List (Option Gate)) (jobs : List (List ℕ)) (rules : List RowView) (results : List WorkedView) : Type 0 where
+  pub count : length results ≡ length jobs
+  pub each : (ticket : ℕ) (d : WorkedView) → ticket < length jobs
+      → IsResultOf cells (slice_index_or jobs ticket []) rules ticket (slice_index_or results ticket d)

@@ -1,0 +1,2 @@
+//! The work of one round: each job's gates are given to the oracle.
+#![tactic(auto)]
