@@ -12,13 +12,30 @@ const H: Gate = Gate::H { wire: 0 };
 
 const X: Gate = Gate::X { wire: 0 };
 
-const fn phase(eighths: Eighths) -> Gate {
-    Gate::Phase { eighths, wire: 0 }
-}
+const T: Gate = Gate::Phase {
+    eighths: Eighths::T,
+    wire: 0,
+};
 
-const T: Gate = phase(Eighths::T);
+const S: Gate = Gate::Phase {
+    eighths: Eighths::S,
+    wire: 0,
+};
 
-const S: Gate = phase(Eighths::S);
+const Z: Gate = Gate::Phase {
+    eighths: Eighths::Z,
+    wire: 0,
+};
+
+const SDG: Gate = Gate::Phase {
+    eighths: Eighths::Sdg,
+    wire: 0,
+};
+
+const TDG: Gate = Gate::Phase {
+    eighths: Eighths::Tdg,
+    wire: 0,
+};
 
 // The segment of these gates, with room for no more.
 fn segment(alloc: Global, gates: &[Gate]) -> Result<Seg, AllocError>
@@ -54,16 +71,10 @@ fn rewriting_goes_on_until_there_is_no_redex(rt: HostRuntime) -> Result<(), Fail
     leaves(&rt, &[], &[], false, 0)?;
     leaves(&rt, &[H, H], &[], true, 0)?;
     leaves(&rt, &[T, S], &[T, S], false, 0)?;
-    leaves(&rt, &[X, T, X], &[phase(Eighths::Tdg)], true, 1)?;
-    leaves(&rt, &[H, S, H, S], &[phase(Eighths::Sdg), H], true, 1)?;
-    leaves(&rt, &[X, T, X, X, T, X], &[phase(Eighths::Sdg)], true, 2)?;
-    leaves(
-        &rt,
-        &[H, X, X, H, T, T, T, T],
-        &[phase(Eighths::Z)],
-        true,
-        0,
-    )?;
+    leaves(&rt, &[X, T, X], &[TDG], true, 1)?;
+    leaves(&rt, &[H, S, H, S], &[SDG, H], true, 1)?;
+    leaves(&rt, &[X, T, X, X, T, X], &[SDG], true, 2)?;
+    leaves(&rt, &[H, X, X, H, T, T, T, T], &[Z], true, 0)?;
     Ok(())
 }
 
