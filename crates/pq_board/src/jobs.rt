@@ -1,4 +1,4 @@
-ghost use Rattle.std.specs.Prelude.{◌≡◌, ◌<◌, ◌≤◌, [], ◌∷◌, ◌++◌, length, OnOk, OnErr, slice_index_or};
+ghost use Rattle.std.specs.Prelude.{◌≡◌, ◌<◌, ◌≤◌, [], ◌∷◌, ◌++◌, length, OnOk, OnErr, slice_index, slice_index_or};
 ghost use Rattle.std.specs.List.{concat};
 ghost use Rattle.std.specs.List.Sorted.{IsStrictlyIncreasing};
 ghost use Rattle.pq_board.specs.Jobs.{lists_from};
@@ -42,6 +42,7 @@ impl Jobs {
         }
     }
 
+    #[tactic(auto, using(crate::proofs::Listing::ends_more, crate::proofs::Listing::lists_more, crate::proofs::Listing::joined))]
     /// Adds a job behind the others. Where memory is refused, the jobs are as they were.
     pub fn add(&mut self, places: &[u64]) -> Result<(), AllocError>
         requires rising { IsStrictlyIncreasing (concat self.old ++ places.now) }
@@ -55,6 +56,7 @@ impl Jobs {
         Ok(())
     }
 
+    #[tactic(auto, using(crate::proofs::Listing::length_lists))]
     /// How many jobs there are.
     pub fn count(&self) -> u64
         ensures count { result ≡ length self.now }
@@ -63,6 +65,7 @@ impl Jobs {
         self.ends.len() as u64
     }
 
+    #[tactic(auto, using(crate::proofs::Listing::length_lists, crate::proofs::Listing::ends_behind, crate::proofs::Listing::ends_within, crate::proofs::Listing::list_is, crate::proofs::Listing::rising_part))]
     /// The places of a job, which are numbered from 0.
     pub fn places(&self, job: u64) -> &[u64]
         requires { job < length self.now }
@@ -70,7 +73,15 @@ impl Jobs {
         ensures rising { IsStrictlyIncreasing result.now }
     {
         let job = job as usize;
-        let start = if job == 0 { 0 } else { self.ends[job - 1] };
-        &self.places[start as usize..self.ends[job] as usize]
+        let start = start_of(&self.ends, job) as usize;
+        &self.places[start..self.ends[job] as usize]
     }
+}
+
+/// Where a job begins: where the one before it ends, and the first at 0.
+fn start_of(ends: &[u64], job: usize) -> u64
+    requires { job ≤ length ends.now }
+    ensures { result ≡ slice_index (0 ∷ ends.now) job }
+{
+    if job == 0 { 0 } else { ends[job - 1] }
 }

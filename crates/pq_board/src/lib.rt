@@ -2,5 +2,7 @@
 #![tactic(auto)]
 
 mod jobs;
+#[cfg(test)]
+mod tests;
 
 pub use jobs::{Jobs, MAX_JOBS};
