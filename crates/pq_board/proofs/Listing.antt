@@ -2,7 +2,7 @@
 use Rattle.std.proofs.Common.{◌≡◌, ℕ, zero, suc, ◌+◌, ◌-◌, ◌<◌, ◌≤◌, List, [], ◌∷◌, ◌++◌, length, get_or, take, drop, refl, sym, ap, ◌∙◌, arith}
 use Rattle.std.specs.List.{concat}
 use Rattle.std.specs.List.Sorted.{IsStrictlyIncreasing}
-use Rattle.std.proofs.lemmas.List.{take-append-drop, take-append-le, take_all, take_at, drop-append-le, drop-drop, drop_all, drop_at, length-drop, length-append, length-take-le, get_or-take, get_or-drop}
+use Rattle.std.proofs.lemmas.List.{take-append-drop, take-append-le, take_all, drop-append-le, drop-drop, drop_all, drop_at, length-drop, length-append, length-take-le, get_or-take, get_or-drop}
 use Rattle.pq_board.specs.Jobs.{lists_from, AreEnds}
 
 -- there are as many lists as ends
@@ -44,7 +44,7 @@ joined_from from places [] are = sym (drop_all from places (omega arith))
 joined_from from places (end ∷ ends) are =
     let e : from + (end - from) ≡ end = let le : from ≤ end = are.0 in omega arith in
     ap (λ (l : List ℕ). take (end - from) (drop from places) ++ l)
-      (joined_from end places ends are.1 ∙ ap (λ n. drop n places) (sym e) ∙ sym (drop-drop (end - from) from places))
+    (joined_from end places ends are.1 ∙ ap (λ n. drop n places) (sym e) ∙ sym (drop-drop (end - from) from places))
     ∙ take-append-drop (end - from) (drop from places)
 
 pub joined : (places ends : List ℕ) → AreEnds 0 places ends → concat (lists_from 0 places ends) ≡ places
@@ -60,16 +60,16 @@ pub lists_more : (from : ℕ) (places more ends : List ℕ) (last : ℕ) → las
     → lists_from from (places ++ more) (ends ++ last ∷ []) ≡ lists_from from places ends ++ more ∷ []
 lists_more from places more [] last is are =
     ap (λ (l : List ℕ). l ∷ [])
-      (ap (λ (l : List ℕ). take (last - from) l) (drop_at places more from (sym are))
-      ∙ take_all (last - from) more (omega (arith, length-append places more)))
+    (ap (λ (l : List ℕ). take (last - from) l) (drop_at places more from (sym are))
+    ∙ take_all (last - from) more (omega (arith, length-append places more)))
 lists_more from places more (end ∷ ends) last is are =
     let within : end ≤ length places = begins_within end places ends are.1 in
     let up : from ≤ end = are.0 in
     let long : end - from ≤ length (drop from places) = omega (arith, length-drop from places) in
     let low : from ≤ length places = omega arith in
     ap (λ (l : List ℕ). l ∷ lists_from end (places ++ more) (ends ++ last ∷ []))
-      (ap (λ (l : List ℕ). take (end - from) l) (drop-append-le from places more low)
-      ∙ take-append-le (end - from) (drop from places) more long)
+    (ap (λ (l : List ℕ). take (end - from) l) (drop-append-le from places more low)
+    ∙ take-append-le (end - from) (drop from places) more long)
     ∙ ap (λ (ls : List (List ℕ)). take (end - from) (drop from places) ∷ ls) (lists_more end places more ends last is are.1)
 
 -- a part of places that rise does too
@@ -79,9 +79,9 @@ rising_part count from places within rises k below =
     let long : length (take count (drop from places)) ≡ count = length-take-le count (drop from places) (omega (arith, length-drop from places)) in
     let inside : k + 1 < count = omega arith in
     let first : get_or (take count (drop from places)) k 0 ≡ get_or places (from + k) 0 =
-        get_or-take count (drop from places) k 0 (omega arith) ∙ get_or-drop from places k 0 in
+    get_or-take count (drop from places) k 0 (omega arith) ∙ get_or-drop from places k 0 in
     let next : get_or (take count (drop from places)) (k + 1) 0 ≡ get_or places (from + (k + 1)) 0 =
-        get_or-take count (drop from places) (k + 1) 0 inside ∙ get_or-drop from places (k + 1) 0 in
+    get_or-take count (drop from places) (k + 1) 0 inside ∙ get_or-drop from places (k + 1) 0 in
     let e : from + (k + 1) ≡ (from + k) + 1 = omega arith in
     let less : get_or places (from + k) 0 < get_or places ((from + k) + 1) 0 = rises (from + k) (omega arith) in
     rw (first, next, e) less
