@@ -61,7 +61,14 @@ module _ (rules : List RowView) (sound : All IsSound rules) (window : ℕ) (posi
       let rest = total_below n next.0.gates next.0.fingers (state_after before next.0 next.1 state next.2) (omega (arith, falls, selects, few)) in
       (after_round next.1 rest.0, round before next.0 next.1 rest.0 (omega arith) next.2 rest.1)
 
-  pub some_total : (gates : List Gate) → (total : Total) × Opt rules window gates total
+  some_total : (gates : List Gate) → (total : Total) × Opt rules window gates total
   some_total gates =
       let state : State = first_state window gates in
       total_below (suc (length state.fingers + 2 * length gates)) gates state.fingers (first_is_state window gates positive) (omega arith)
+
+-- the optimiser has a result
+pub opt_some : ((rules : List RowView) (window : ℕ) (before after : State) (step : StepView) → 0 < window → All IsSound rules →
+        IsState before → Round rules window before after step → IsState after) →
+    (rules : List RowView) (window : ℕ) (gates : List Gate) → 0 < window → All IsSound rules → (total : Total) × Opt rules window gates total
+opt_some state_after rules window gates positive sound =
+    some_total rules sound window positive (λ before after step state is. state_after rules window before after step positive sound state is) gates
