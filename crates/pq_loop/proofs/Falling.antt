@@ -1,14 +1,13 @@
 -- Each round makes the fingers and twice the gates fall by the selected fingers at least.
-use Rattle.std.proofs.Common.{◌≡◌, ℕ, zero, suc, ◌+◌, ◌-◌, ◌*◌, ◌<◌, ◌≤◌, min, Bool, true, false, ◌||◌, ◌&&◌, not, eqb, ltb, leb, cond, List, [], ◌∷◌, ◌++◌, length, map, take, drop, get_or, inl, inr, ◌⊎◌, refl, ap, sym, subst, ◌∙◌, arith}
+use Rattle.std.proofs.Common.{◌≡◌, ℕ, suc, ◌+◌, ◌-◌, ◌*◌, ◌<◌, ◌≤◌, min, Bool, true, false, not, eqb, ltb, leb, List, [], ◌∷◌, ◌++◌, length, map, take, drop, inl, inr, ◌⊎◌, refl, ap, sym, subst, arith}
 use Rattle.std.specs.Prelude.{All, if◌then◌else◌}
 use Rattle.std.specs.List.{filter, flat_map, list_any}
-use Rattle.std.proofs.lemmas.Bool.{cases_lt, cases_Bool, le-leb, lt-leb, or_cases, or_left, or_right}
+use Rattle.std.proofs.lemmas.Bool.{cases_lt, cases_Bool, le-leb, lt-leb, or_cases, or_right}
 use Rattle.std.proofs.lemmas.List.{length-append, length-map, length-take, length-drop}
 use Rattle.std.proofs.lemmas.List.Elements.{All-head, All-tail}
 use Rattle.pq_gate.specs.declared.gate.Gate.{Gate}
 use Rattle.pq_rules.specs.Row.{RowView, IsSound}
-use Rattle.pq_array.specs.Cells.{spliced}
-use Rattle.pq_finger.specs.Gaps.{GapCut, segment_from, segment_to, selected, selected_from, with_number, ascending, is_inside, inner_edges, is_dropped_gap, new_gaps, kept_gaps, moved_gap, new_fingers}
+use Rattle.pq_finger.specs.Gaps.{GapCut, selected, selected_from, with_number, ascending, inner_edges, is_dropped_gap, new_gaps, kept_gaps, moved_gap, new_fingers}
 use Rattle.pq_finger.proofs.Ascending.{member}
 use Rattle.pq_finger.proofs.Rising.{All-from_member}
 use Rattle.pq_match.specs.Rewrite.{rewritten}
@@ -62,11 +61,11 @@ selected_leave drops window least (gap ∷ gaps) all =
   where
     taken : leb least gap ≡ true → All (λ other. drops other ≡ true) (gap ∷ selected_from window (gap + 2 * window) gaps)
     taken may = subst (λ (b : Bool). All (λ other. drops other ≡ true)
-      (if b then gap ∷ selected_from window (gap + 2 * window) gaps else selected_from window least gaps)) may all
+        (if b then gap ∷ selected_from window (gap + 2 * window) gaps else selected_from window least gaps)) may all
 
     passed : leb least gap ≡ false → All (λ other. drops other ≡ true) (selected_from window least gaps)
     passed may = subst (λ (b : Bool). All (λ other. drops other ≡ true)
-      (if b then gap ∷ selected_from window (gap + 2 * window) gaps else selected_from window least gaps)) may all
+        (if b then gap ∷ selected_from window (gap + 2 * window) gaps else selected_from window least gaps)) may all
 
     by : Leaves drops window (gap + 2 * window) gaps → Leaves drops window least gaps → (leb least gap ≡ true) ⊎ (leb least gap ≡ false) → (drops gap ≡ true) ⊎ (drops gap ≡ false) →
         length (filter (λ other. not (drops other)) (gap ∷ gaps)) + length (selected_from window least (gap ∷ gaps)) ≤ length (gap ∷ gaps)
@@ -139,7 +138,7 @@ record Shrinks (live least : ℕ) (new improved : ℕ) : Type 0 where
 module _ (rules : List RowView) (sound : All IsSound rules) (window : ℕ) (gates : List Gate) where
   joined_shrinks : (least : ℕ) (works : List Work) → Spread window (length gates) least (fingers_of works) →
       All (IsWorkOf rules window gates) works → Shrinks (length gates) (least - window) (length (joined gates works)) (improved_of works)
-  joined_shrinks least [] spread each = record { short = omega arith; reaches = omega arith; }
+  joined_shrinks least [] spread each = record { short = omega arith; reaches = omega arith }
   joined_shrinks least (work ∷ works) spread each =
       let is : IsWorkOf rules window gates work = All-head (IsWorkOf rules window gates) work works each in
       let rest : Shrinks (length gates) (work.finger + 2 * window - window) (length (joined gates works)) (improved_of works) =

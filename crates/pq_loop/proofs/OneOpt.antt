@@ -1,6 +1,6 @@
 -- Rounds end in exactly one way.
 use Rattle.std.proofs.Common.{◌≡◌, ℕ, zero, suc, ◌+◌, ◌*◌, ◌<◌, ◌≤◌, List, [], ◌∷◌, length, get_or, sym, subst, arith, refl}
-use Rattle.std.specs.Prelude.{All, Contains}
+use Rattle.std.specs.Prelude.{All}
 use Rattle.std.proofs.lemmas.List.{get_or_default}
 use Rattle.pq_gate.specs.declared.gate.Gate.{Gate}
 use Rattle.pq_rules.specs.Row.{RowView, IsSound}
@@ -49,12 +49,12 @@ first_is_state window gates some = record {
 -- Rounds end, where each round leads a state to a state.
 module _ (rules : List RowView) (sound : All IsSound rules) (window : ℕ) (positive : 0 < window)
     (state_after : (before after : State) (step : StepView) → IsState before → Round rules window before after step → IsState after) where
-  total_below : (n : ℕ) (gates : List Gate) (fingers : List ℕ) → IsState (record { gates = gates; fingers = fingers; }) →
-      length fingers + 2 * length gates < n → (total : Total) × Rounds rules window (record { gates = gates; fingers = fingers; }) total
+  total_below : (n : ℕ) (gates : List Gate) (fingers : List ℕ) → IsState (record { gates = gates; fingers = fingers }) →
+      length fingers + 2 * length gates < n → (total : Total) × Rounds rules window (record { gates = gates; fingers = fingers }) total
   total_below zero gates fingers state few = absurd (omega arith)
   total_below (suc n) gates [] state few = (settled gates, done gates)
   total_below (suc n) gates (finger ∷ fingers) state few =
-      let before : State = record { gates = gates; fingers = finger ∷ fingers; } in
+      let before : State = record { gates = gates; fingers = finger ∷ fingers } in
       let next = round_some rules window before sound in
       let falls = round_falls rules window before next.0 next.1 positive sound state next.2 in
       let selects = round_selects rules window before next.0 next.1 next.2 (omega arith) in
@@ -68,7 +68,7 @@ module _ (rules : List RowView) (sound : All IsSound rules) (window : ℕ) (posi
 
 -- the optimiser has a result
 pub opt_some : ((rules : List RowView) (window : ℕ) (before after : State) (step : StepView) → 0 < window → All IsSound rules →
-        IsState before → Round rules window before after step → IsState after) →
+    IsState before → Round rules window before after step → IsState after) →
     (rules : List RowView) (window : ℕ) (gates : List Gate) → 0 < window → All IsSound rules → (total : Total) × Opt rules window gates total
 opt_some state_after rules window gates positive sound =
     some_total rules sound window positive (λ before after step state is. state_after rules window before after step positive sound state is) gates

@@ -27,7 +27,7 @@ module _ (rules : List RowView) (sound : All IsSound rules) (window : ℕ) (gate
       let segment : run gates other.from other.to ≡ run gates work.from work.to = sym (λ i. run gates (begins i) (ends i)) in
       let answers : work.answer ≡ other.answer =
       one_answer rules sound left.oracle (subst (λ (g : List Gate). Ora rules g other.answer) segment right.oracle) in
-      λ i. record { finger = same i; from = begins i; to = ends i; answer = answers i; }
+      λ i. record { finger = same i; from = begins i; to = ends i; answer = answers i }
 
   pub one_list : (works others : List Work) → fingers_of works ≡ fingers_of others → All (IsWorkOf rules window gates) works →
       All (IsWorkOf rules window gates) others → works ≡ others
@@ -48,10 +48,10 @@ module _ (rules : List RowView) (sound : All IsSound rules) (window : ℕ) (gate
       let begins : ℕ = segment_from window finger in
       let ends : ℕ = segment_to window (length gates) finger in
       let found = some_answer rules sound (run gates begins ends) in
-      (record { finger = finger; from = begins; to = ends; answer = found.0; }, refl, record { begins = refl; ends = refl; oracle = found.1; })
+      (record { finger = finger; from = begins; to = ends; answer = found.0 }, refl, record { begins = refl; ends = refl; oracle = found.1 })
 
   pub some_works : (fingers : List ℕ) → Works rules window gates fingers
-  some_works [] = record { works = []; at = refl; each = All-nil (IsWorkOf rules window gates); }
+  some_works [] = record { works = []; at = refl; each = All-nil (IsWorkOf rules window gates) }
   some_works (finger ∷ fingers) =
       let first = work_at finger in
       let rest = some_works fingers in
@@ -67,25 +67,26 @@ pub round_some : (rules : List RowView) (window : ℕ) (before : State) → All 
 round_some rules window before sound =
     let found : Works rules window before.gates (selected window before.fingers) =
     some_works rules sound window before.gates (selected window before.fingers) in
-    let gates : List Gate = joined before.gates found.works in
-    (record { gates = gates; fingers = new_fingers (length before.gates) (map cut_of found.works) before.fingers; },
-    record {
-      selected = length found.works;
-      improved = improved_of found.works;
-      removed = length before.gates - length gates;
-      phase = phases_of found.works % 8;
-    },
-    record {
-      works = found.works;
-      selects = found.at;
-      each = found.each;
-      gates = refl;
-      fingers = refl;
-      selected_is = refl;
-      improved_is = refl;
-      removed_is = refl;
-      phase_is = refl;
-    })
+    let gates : List Gate = joined before.gates found.works in (
+      record { gates = gates; fingers = new_fingers (length before.gates) (map cut_of found.works) before.fingers },
+      record {
+        selected = length found.works;
+        improved = improved_of found.works;
+        removed = length before.gates - length gates;
+        phase = phases_of found.works % 8;
+      },
+      record {
+        works = found.works;
+        selects = found.at;
+        each = found.each;
+        gates = refl;
+        fingers = refl;
+        selected_is = refl;
+        improved_is = refl;
+        removed_is = refl;
+        phase_is = refl;
+      },
+    )
 
 -- and it has one result
 pub round_only : (rules : List RowView) (window : ℕ) (before after other : State) (step another : StepView) → All IsSound rules →
@@ -100,6 +101,7 @@ round_only rules window before after other step another sound left right =
     let improved : step.improved ≡ another.improved = left.improved_is ∙ (ap improved_of works ∙ sym right.improved_is) in
     let removed : step.removed ≡ another.removed =
     left.removed_is ∙ (ap (λ (g : List Gate). length before.gates - length g) gates ∙ sym right.removed_is) in
-    let phase : step.phase ≡ another.phase = left.phase_is ∙ (ap (λ (ws : List Work). phases_of ws % 8) works ∙ sym right.phase_is) in
-    (λ i. record { gates = gates i; fingers = fingers i; },
-    λ i. record { selected = chosen i; improved = improved i; removed = removed i; phase = phase i; })
+    let phase : step.phase ≡ another.phase = left.phase_is ∙ (ap (λ (ws : List Work). phases_of ws % 8) works ∙ sym right.phase_is) in (
+      λ i. record { gates = gates i; fingers = fingers i },
+      λ i. record { selected = chosen i; improved = improved i; removed = removed i; phase = phase i },
+    )
