@@ -1,0 +1,3 @@
+pub mod OneRound
+pub mod OneOpt
+pub mod Falling
