@@ -9,45 +9,45 @@ ghost use Rattle.pq_loop.specs.Opt.{Total, Rounds, Opt, Local, Cover};
 
 /// Under sound rules a round leads each state to exactly one state, with one set of numbers.
 pub fn rounds_have_one_result()
-    ensures some { (rules : List RowView) (omega : ℕ) (before : State) → All IsSound rules
-        → (after : State) × (step : StepView) × Round rules omega before after step }
-    ensures only { (rules : List RowView) (omega : ℕ) (before after other : State) (step another : StepView) → All IsSound rules
-        → Round rules omega before after step → Round rules omega before other another → (after ≡ other) × (step ≡ another) }
+    ensures some { (rules : List RowView) (window : ℕ) (before : State) → All IsSound rules
+        → (after : State) × (step : StepView) × Round rules window before after step }
+    ensures only { (rules : List RowView) (window : ℕ) (before after other : State) (step another : StepView) → All IsSound rules
+        → Round rules window before after step → Round rules window before other another → (after ≡ other) × (step ≡ another) }
 {}
 
 /// A round leads a state to a state. Where each run of at most Omega gates that has a redex lay in a finger's
 /// segment, it does after. The matrix turns by the round's phase, and the fingers and twice the gates fall
 /// by the selected fingers at least.
 pub fn rounds_keep_cover()
-    ensures state { (rules : List RowView) (omega : ℕ) (before after : State) (step : StepView) → 0 < omega → All IsSound rules → IsState before
-        → Round rules omega before after step → IsState after }
-    ensures cover { (rules : List RowView) (omega : ℕ) (before after : State) (step : StepView) → 0 < omega → All IsSound rules → IsState before
-        → Round rules omega before after step → Cover rules omega before → Cover rules omega after }
-    ensures same { (rules : List RowView) (omega : ℕ) (before after : State) (step : StepView) (n : ℕ) → 0 < omega → All IsSound rules → IsState before
-        → Round rules omega before after step → IsCircuit n before.gates → Same n before.gates after.gates step.phase }
-    ensures bound { (rules : List RowView) (omega : ℕ) (before after : State) (step : StepView) → 0 < omega → All IsSound rules → IsState before
-        → Round rules omega before after step
+    ensures state { (rules : List RowView) (window : ℕ) (before after : State) (step : StepView) → 0 < window → All IsSound rules → IsState before
+        → Round rules window before after step → IsState after }
+    ensures cover { (rules : List RowView) (window : ℕ) (before after : State) (step : StepView) → 0 < window → All IsSound rules → IsState before
+        → Round rules window before after step → Cover rules window before → Cover rules window after }
+    ensures same { (rules : List RowView) (window : ℕ) (before after : State) (step : StepView) (n : ℕ) → 0 < window → All IsSound rules → IsState before
+        → Round rules window before after step → IsCircuit n before.gates → Same n before.gates after.gates step.phase }
+    ensures bound { (rules : List RowView) (window : ℕ) (before after : State) (step : StepView) → 0 < window → All IsSound rules → IsState before
+        → Round rules window before after step
         → length after.fingers + 2 * length after.gates + step.selected ≤ length before.fingers + 2 * length before.gates }
-    ensures selects { (rules : List RowView) (omega : ℕ) (before after : State) (step : StepView) → Round rules omega before after step
+    ensures selects { (rules : List RowView) (window : ℕ) (before after : State) (step : StepView) → Round rules window before after step
         → 0 < length before.fingers → 0 < step.selected }
 {}
 
 /// Under sound rules rounds from the first fingers end in exactly one way.
 pub fn opt_has_one_result()
-    ensures some { (rules : List RowView) (omega : ℕ) (gates : List Gate) → 0 < omega → All IsSound rules
-        → (total : Total) × Opt rules omega gates total }
-    ensures only { (rules : List RowView) (omega : ℕ) (gates : List Gate) (total other : Total) → All IsSound rules
-        → Opt rules omega gates total → Opt rules omega gates other → total ≡ other }
+    ensures some { (rules : List RowView) (window : ℕ) (gates : List Gate) → 0 < window → All IsSound rules
+        → (total : Total) × Opt rules window gates total }
+    ensures only { (rules : List RowView) (window : ℕ) (gates : List Gate) (total other : Total) → All IsSound rules
+        → Opt rules window gates total → Opt rules window gates other → total ≡ other }
 {}
 
 /// What the rounds end with: no run of at most Omega gates has a redex, the matrix is kept up to the phase, and
 /// there were at most as many calls as first fingers and twice the removed gates.
 pub fn opt_is_local()
-    ensures local { (rules : List RowView) (omega : ℕ) (gates : List Gate) (total : Total) → 0 < omega → All IsSound rules
-        → Opt rules omega gates total → Local rules omega total.gates }
-    ensures same { (rules : List RowView) (omega : ℕ) (gates : List Gate) (total : Total) (n : ℕ) → 0 < omega → All IsSound rules
-        → Opt rules omega gates total → IsCircuit n gates → Same n gates total.gates total.phase }
-    ensures bound { (rules : List RowView) (omega : ℕ) (gates : List Gate) (total : Total) → 0 < omega → All IsSound rules
-        → Opt rules omega gates total
-        → total.calls + 2 * length total.gates ≤ length (first_fingers (length gates) omega) + 2 * length gates }
+    ensures local { (rules : List RowView) (window : ℕ) (gates : List Gate) (total : Total) → 0 < window → All IsSound rules
+        → Opt rules window gates total → Local rules window total.gates }
+    ensures same { (rules : List RowView) (window : ℕ) (gates : List Gate) (total : Total) (n : ℕ) → 0 < window → All IsSound rules
+        → Opt rules window gates total → IsCircuit n gates → Same n gates total.gates total.phase }
+    ensures bound { (rules : List RowView) (window : ℕ) (gates : List Gate) (total : Total) → 0 < window → All IsSound rules
+        → Opt rules window gates total
+        → total.calls + 2 * length total.gates ≤ length (first_fingers (length gates) window) + 2 * length gates }
 {}
