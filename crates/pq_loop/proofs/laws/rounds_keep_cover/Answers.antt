@@ -1,0 +1,5 @@
+use Rattle.pq_loop.proofs.Joining.{round_same}
+use Rattle.pq_loop.proofs.laws.rounds_keep_cover.Goals as goal
+
+pub returns-clause-same : goal.returns-clause-same
+returns-clause-same c = round_same
