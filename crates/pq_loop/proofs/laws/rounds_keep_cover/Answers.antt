@@ -1,5 +1,9 @@
+use Rattle.pq_loop.proofs.Covering.{state_after}
 use Rattle.pq_loop.proofs.Joining.{round_same}
 use Rattle.pq_loop.proofs.laws.rounds_keep_cover.Goals as goal
+
+pub returns-clause-state : goal.returns-clause-state
+returns-clause-state c = state_after
 
 pub returns-clause-same : goal.returns-clause-same
 returns-clause-same c = round_same
