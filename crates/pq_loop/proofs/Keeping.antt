@@ -17,10 +17,10 @@ use Rattle.pq_loop.proofs.Joining.{Fit, work_up, joined_long, oracle_later, run_
 none_yet : (improved : Bool) (to y lost : ℕ) → y < to → cond (improved && leb to y) lost 0 ≡ 0
 none_yet improved to y lost lt = rw (and_right improved (leb to y) (lt-leb to y lt)) refl
 
-all_lost : (improved : Bool) (to y lost : ℕ) → improved ≡ true → to ≤ y → cond (improved && leb to y) lost 0 ≡ lost
+pub all_lost : (improved : Bool) (to y lost : ℕ) → improved ≡ true → to ≤ y → cond (improved && leb to y) lost 0 ≡ lost
 all_lost improved to y lost better le = rw (and_from improved (leb to y) better (le-leb to y le)) refl
 
-none_lost : (improved : Bool) (to y lost : ℕ) → improved ≡ false → cond (improved && leb to y) lost 0 ≡ 0
+pub none_lost : (improved : Bool) (to y lost : ℕ) → improved ≡ false → cond (improved && leb to y) lost 0 ≡ 0
 none_lost improved to y lost same = rw same refl
 
 at_most : (counts : Bool) (lost : ℕ) → cond counts lost 0 ≤ lost

@@ -1,3 +1,4 @@
 pub mod Joining
 pub mod Keeping
+pub mod Redexes
 pub mod Covering
