@@ -2,3 +2,4 @@ pub mod Joining
 pub mod Keeping
 pub mod Redexes
 pub mod Covering
+pub mod Ending
