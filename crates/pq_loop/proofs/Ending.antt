@@ -89,3 +89,23 @@ pub opt_same : (rules : List RowView) (w : ℕ) (gates : List Gate) (total : Tot
     Opt rules w gates total → IsCircuit n gates → Same n gates total.gates total.phase
 opt_same rules w gates total n some sound opt circuit =
     same_from rules w (first_state w gates) total n some sound (first_is_state w gates some) opt circuit
+
+-- in a round the fingers and twice the gates fall by the selected fingers at least
+abbrev pub Falls : Type 0
+Falls =
+    (rules : List RowView) (w : ℕ) (before after : State) (step : StepView) → 0 < w → All IsSound rules → IsState before →
+    Round rules w before after step →
+    length after.fingers + 2 * length after.gates + step.selected ≤ length before.fingers + 2 * length before.gates
+
+bound_from : Falls → (rules : List RowView) (w : ℕ) (before : State) (total : Total) → 0 < w → All IsSound rules → IsState before →
+    Rounds rules w before total → total.calls + 2 * length total.gates ≤ length before.fingers + 2 * length before.gates
+bound_from falls rules w _ _ some sound state (done gates) = omega arith
+bound_from falls rules w _ _ some sound state (round before after step total fingers one rest) =
+    omega (arith, falls rules w before after step some sound state one,
+    bound_from falls rules w after total some sound (state_after rules w before after step some sound state one) rest)
+
+-- so the rounds have no more calls than that
+pub opt_bound : Falls → (rules : List RowView) (w : ℕ) (gates : List Gate) (total : Total) → 0 < w → All IsSound rules →
+    Opt rules w gates total → total.calls + 2 * length total.gates ≤ length (first_fingers (length gates) w) + 2 * length gates
+opt_bound falls rules w gates total some sound opt =
+    bound_from falls rules w (first_state w gates) total some sound (first_is_state w gates some) opt
