@@ -1,4 +1,4 @@
-use Rattle.std.proofs.Common.{◌≡◌, ℕ, ◌+◌, ◌-◌, ◌*◌, ◌/◌, ◌%◌, ◌<◌, ◌≤◌, List, [], length, refl, arith, inl, inr, ◌⊎◌}
+use Rattle.std.proofs.Common.{◌≡◌, ℕ, ◌+◌, ◌*◌, ◌/◌, ◌%◌, ◌<◌, ◌≤◌, List, length, refl, arith, inl, inr, ◌⊎◌}
 use Rattle.std.specs.Prelude.{All, Contains}
 use Rattle.std.proofs.Math.Nat.{mul_comm}
 use Rattle.std.proofs.lemmas.Bool.{cases_lt}
@@ -7,12 +7,11 @@ use Rattle.pq_gate.specs.Circuit.{IsCircuit}
 use Rattle.pq_gate.specs.Matrix.{Same}
 use Rattle.pq_gate.proofs.SameLaws.{same_reflexive, same_transitive}
 use Rattle.pq_rules.specs.Row.{RowView, IsSound}
-use Rattle.pq_match.specs.Redex.{RedexView, IsRedex}
 use Rattle.pq_finger.specs.Gaps.{first_fingers, segment_from, segment_to}
 use Rattle.pq_finger.proofs.Multiples.{first_rises, first_contained, first_contains}
 use Rattle.pq_finger.proofs.Rising.{All-from_member, contains_from_member}
-use Rattle.pq_loop.specs.Round.{State, IsState, StepView, Round, run}
-use Rattle.pq_loop.specs.Opt.{Total, Rounds, done, round, settled, after_round, first_state, Opt, Local, Cover}
+use Rattle.pq_loop.specs.Round.{State, IsState, StepView, Round}
+use Rattle.pq_loop.specs.Opt.{Total, Rounds, done, round, first_state, Opt, Local, Cover}
 use Rattle.pq_loop.proofs.Joining.{round_same}
 use Rattle.pq_loop.proofs.Covering.{state_after, cover_after}
 use Rattle.pq_loop.proofs.Redexes.{redex_run_long}
@@ -48,20 +47,18 @@ first_covers rules w gates some a b redex up in_list most is = by (cases_lt ((a 
 
     by : ((a / w + 1) * w < length gates) ⊎ (length gates ≤ (a / w + 1) * w) →
         (finger : ℕ) × Contains (first_fingers (length gates) w) finger × (segment_from w finger ≤ a) × (b ≤ segment_to w (length gates) finger)
-    by (inl inner) =
-        (
-          (a / w + 1) * w,
-          first_contains (length gates) w ((a / w + 1) * w) some (inner, (a / w + 1, refl)),
-          omega (arith, whole, left, turned, more),
-          omega (arith, whole, left, turned, more, most, in_list),
-        )
-    by (inr last) =
-        (
-          a / w * w,
-          first_contains (length gates) w (a / w * w) some (omega (arith, whole, turned, long, in_list), (a / w, refl)),
-          omega (arith, whole, turned),
-          omega (arith, more, last, in_list),
-        )
+    by (inl inner) = (
+      (a / w + 1) * w,
+      first_contains (length gates) w ((a / w + 1) * w) some (inner, (a / w + 1, refl)),
+      omega (arith, whole, left, turned, more),
+      omega (arith, whole, left, turned, more, most, in_list),
+    )
+    by (inr last) = (
+      a / w * w,
+      first_contains (length gates) w (a / w * w) some (omega (arith, whole, turned, long, in_list), (a / w, refl)),
+      omega (arith, whole, turned),
+      omega (arith, more, last, in_list),
+    )
 
 -- where nothing is overlooked, the rounds end with gates in which no run has a redex
 local_from : (rules : List RowView) (w : ℕ) (before : State) (total : Total) → 0 < w → All IsSound rules → IsState before → Cover rules w before →
@@ -101,8 +98,11 @@ bound_from : Falls → (rules : List RowView) (w : ℕ) (before : State) (total 
     Rounds rules w before total → total.calls + 2 * length total.gates ≤ length before.fingers + 2 * length before.gates
 bound_from falls rules w _ _ some sound state (done gates) = omega arith
 bound_from falls rules w _ _ some sound state (round before after step total fingers one rest) =
-    omega (arith, falls rules w before after step some sound state one,
-    bound_from falls rules w after total some sound (state_after rules w before after step some sound state one) rest)
+    omega (
+      arith,
+      falls rules w before after step some sound state one,
+      bound_from falls rules w after total some sound (state_after rules w before after step some sound state one) rest,
+    )
 
 -- so the rounds have no more calls than that
 pub opt_bound : Falls → (rules : List RowView) (w : ℕ) (gates : List Gate) (total : Total) → 0 < w → All IsSound rules →
