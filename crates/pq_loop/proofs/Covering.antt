@@ -1,4 +1,4 @@
-use Rattle.std.proofs.Common.{◌≡◌, ◌≢◌, ℕ, ◌+◌, ◌-◌, ◌<◌, ◌≤◌, Bool, true, false, cond, ◌&&◌, leb, List, [], ◌∷◌, ◌++◌, length, map, take, drop, refl, ap, sym, subst, ◌∙◌, arith, inl, inr, ◌⊎◌}
+use Rattle.std.proofs.Common.{◌≡◌, ◌≢◌, ℕ, ◌+◌, ◌-◌, ◌<◌, ◌≤◌, true, false, List, [], ◌∷◌, ◌++◌, length, map, take, drop, refl, ap, sym, subst, ◌∙◌, arith, inl, inr, ◌⊎◌}
 use Rattle.std.specs.Prelude.{All, Contains}
 use Rattle.std.specs.List.Sorted.{IsStrictlyIncreasing}
 use Rattle.std.proofs.lemmas.Bool.{cases_lt, cases_order, cases_Bool, true≢false}
@@ -6,7 +6,7 @@ use Rattle.std.proofs.lemmas.List.{drop-drop, take-take, take-append-le, length-
 use Rattle.std.proofs.Math.Seq.{drop-append_seam, take-append_seam, drop-append-add}
 use Rattle.pq_gate.specs.declared.gate.Gate.{Gate}
 use Rattle.pq_rules.specs.Row.{RowView, IsSound}
-use Rattle.pq_match.specs.Redex.{RedexView, IsRedex, HasNoRedex}
+use Rattle.pq_match.specs.Redex.{IsRedex, HasNoRedex}
 use Rattle.pq_finger.specs.Gaps.{DropsGap, segment_from, segment_to, kept_gaps, lost_before, moved_gap, new_fingers}
 use Rattle.pq_finger.proofs.Putting.{increasing-ascending}
 use Rattle.pq_finger.proofs.Rising.{All-from_member, contains_from_member}
@@ -121,8 +121,14 @@ module _ (rules : List RowView) (w : ℕ) (gates : List Gate) (fingers : List �
       new_from_kept (length gates) (map cut_of (work ∷ works)) fingers work.to
       (kept_edge (length gates) (cut_of work) (map cut_of works) fingers work.to (better, inr (refl, inner))) in
       let at : moved_gap (map cut_of (work ∷ works)) work.to ≡ work.from + length work.answer.gates =
-      omega (arith, rest_none work.to (omega arith), size.short, size.before, size.behind,
-      all_lost work.answer.improved work.to work.to (work.to - work.from - length work.answer.gates) better (omega arith)) in
+      omega (
+        arith,
+        rest_none work.to (omega arith),
+        size.short,
+        size.before,
+        size.behind,
+        all_lost work.answer.improved work.to work.to (work.to - work.from - length work.answer.gates) better (omega arith),
+      ) in
       subst (Contains (fingers_after gates fingers (work ∷ works))) at new
 
   -- a run left of the segment
@@ -139,16 +145,14 @@ module _ (rules : List RowView) (w : ℕ) (gates : List Gate) (fingers : List �
           Covered w (length (joined gates (work ∷ works))) (fingers_after gates fingers (work ∷ works)) a b
       by y kept at (inl lt) side =
           let none = all_none y (omega (arith, lt)) in
-          let rest = rest_none y (omega (arith, lt, size.before, size.behind)) in
-          (
+          let rest = rest_none y (omega (arith, lt, size.before, size.behind)) in (
             moved_gap (map cut_of (work ∷ works)) y,
             new_at y kept (inl lt),
             omega (arith, none, rest, at, old.2),
             omega (arith, none, rest, at, old.3, size.size, before),
           )
       by y kept at (inr ge) (inr le) =
-          let rest = rest_none y le in
-          (
+          let rest = rest_none y le in (
             work.from,
             edge_from better (λ zero_is. omega (arith, zero_is, some, before)),
             omega (arith, rest, at, old.2, ge),
@@ -156,8 +160,7 @@ module _ (rules : List RowView) (w : ℕ) (gates : List Gate) (fingers : List �
           )
       by y kept at (inr ge) (inl gt) =
           let lost = all_lost work.answer.improved work.to y (work.to - work.from - length work.answer.gates) better (omega (arith, gt)) in
-          let rest = lost_fits rules w gates work.to y works fit.3 (omega (arith, gt)) in
-          (
+          let rest = lost_fits rules w gates work.to y works fit.3 (omega (arith, gt)) in (
             moved_gap (map cut_of (work ∷ works)) y,
             new_at y kept (inr gt),
             omega (arith, lost, at, old.2),
@@ -183,16 +186,14 @@ module _ (rules : List RowView) (w : ℕ) (gates : List Gate) (fingers : List �
           Covered w (length (joined gates (work ∷ works))) (fingers_after gates fingers (work ∷ works)) a b
       by y kept at (inl lt) side =
           let none = all_none y (omega (arith, lt)) in
-          let rest = rest_none y (omega (arith, lt, size.before, size.behind)) in
-          (
+          let rest = rest_none y (omega (arith, lt, size.before, size.behind)) in (
             moved_gap (map cut_of (work ∷ works)) y,
             new_at y kept (inl lt),
             omega (arith, none, lt, behind),
             omega (arith, none, rest, at, old.3, in_list),
           )
       by y kept at (inr ge) (inr le) =
-          let rest = rest_none y le in
-          (
+          let rest = rest_none y le in (
             work.from + length work.answer.gates,
             edge_to better (λ end. omega (arith, end, some, behind, in_list, size.size, less)),
             omega (arith, behind),
@@ -200,8 +201,7 @@ module _ (rules : List RowView) (w : ℕ) (gates : List Gate) (fingers : List �
           )
       by y kept at (inr ge) (inl gt) =
           let lost = all_lost work.answer.improved work.to y (work.to - work.from - length work.answer.gates) better (omega (arith, gt)) in
-          let rest = lost_fits rules w gates work.to y works fit.3 (omega (arith, gt)) in
-          (
+          let rest = lost_fits rules w gates work.to y works fit.3 (omega (arith, gt)) in (
             moved_gap (map cut_of (work ∷ works)) y,
             new_at y kept (inr gt),
             omega (arith, lost, rest, at, old.2, size.short, size.before, size.behind),
@@ -232,16 +232,14 @@ module _ (rules : List RowView) (w : ℕ) (gates : List Gate) (fingers : List �
           (omega (arith, in_list, size.size, size.short, size.in_now, size.before, size.behind)) (omega (arith, most))
           (subst (λ (c : List Gate). IsRedex rules c redex)
           (spliced_back (joined gates works) work.answer.gates work.from work.to a b long size.short (omega (arith, size.before, size.behind)) behind up) is))
-      by (inl past) (inl early) (inl starts) z =
-          (
-            work.from,
-            edge_from better (λ zero_is. omega (arith, zero_is, starts)),
-            omega (arith, past, most),
-            omega (arith, in_list, starts, most),
-          )
+      by (inl past) (inl early) (inl starts) z = (
+        work.from,
+        edge_from better (λ zero_is. omega (arith, zero_is, starts)),
+        omega (arith, past, most),
+        omega (arith, in_list, starts, most),
+      )
       by (inl past) (inl early) (inr inner) (inl ends) =
-          let less : length (joined gates works) ≤ length gates = joined_short rules w gates work.to works sound fit.3 in
-          (
+          let less : length (joined gates works) ≤ length gates = joined_short rules w gates work.to works sound fit.3 in (
             work.from + length work.answer.gates,
             edge_to better (λ end. omega (arith, end, ends, in_list, size.size, less)),
             omega (arith, ends, most),
@@ -280,11 +278,10 @@ module _ (rules : List RowView) (w : ℕ) (gates : List Gate) (fingers : List �
       other_finger : (y : ℕ) → Kept (length gates) (map cut_of works) fingers y → cover.0 ≡ moved_gap (map cut_of works) y → (y ≡ work.finger → ⊥) →
           Covered w (length (joined gates (work ∷ works))) (fingers_after gates fingers (work ∷ works)) a b
       other_finger y kept at other =
-          let none = none_lost work.answer.improved work.to y (work.to - work.from - length work.answer.gates) same in
-          (
+          let none = none_lost work.answer.improved work.to y (work.to - work.from - length work.answer.gates) same in (
             moved_gap (map cut_of (work ∷ works)) y,
             new_from_kept (length gates) (map cut_of (work ∷ works)) fingers y
-            (kept_more (length gates) (cut_of work) (map cut_of works) fingers y kept (not_own y other)),
+                (kept_more (length gates) (cut_of work) (map cut_of works) fingers y kept (not_own y other)),
             omega (arith, none, at, cover.2),
             omega (arith, none, at, cover.3, long),
           )

@@ -114,14 +114,13 @@ fit_from rules w gates least (work ∷ works) each inside low apart =
     let is : IsWorkOf rules w gates work = All-head (IsWorkOf rules w gates) work works each in
     let least_is : least ≤ segment_from w work.finger = low 0 0 (omega arith) in
     let next : All (λ later. work.to ≤ segment_from w later) fingers =
-    λ k d lt. (let step : segment_to w (length gates) work.finger ≤ segment_from w _ = apart 0 (suc k) d (omega arith) (omega arith) in omega (arith, step, is.ends)) in
-    (
+    λ k d lt. (let step : segment_to w (length gates) work.finger ≤ segment_from w _ = apart 0 (suc k) d (omega arith) (omega arith) in omega (arith, step, is.ends)) in (
       omega (arith, is.begins, least_is),
       inside 0 0 (omega arith),
       is,
       fit_from rules w gates work.to works (All-tail (IsWorkOf rules w gates) work works each)
-      (λ k d lt. inside (suc k) d (omega arith)) next
-      (λ i j d lt in'. apart (suc i) (suc j) d (omega arith) (omega arith)),
+          (λ k d lt. inside (suc k) d (omega arith)) next
+          (λ i j d lt in'. apart (suc i) (suc j) d (omega arith) (omega arith)),
     )
 
 pub round_fits : (rules : List RowView) (w : ℕ) (before after : State) (step : StepView) → IsState before →

@@ -5,10 +5,9 @@ use Rattle.std.proofs.lemmas.List.{get_or-map, get_or_default, length-map, lengt
 use Rattle.pq_gate.specs.declared.gate.Gate.{Gate}
 use Rattle.pq_rules.specs.Row.{RowView, IsSound}
 use Rattle.pq_finger.specs.Gaps.{GapCut, DropsGap, MakesGap, ascending, kept_gaps, new_fingers, lost_before, moved_gap}
-use Rattle.pq_finger.proofs.Ascending.{member, member-ascending}
+use Rattle.pq_finger.proofs.Ascending.{member-ascending}
 use Rattle.pq_finger.proofs.Exactly.{kept_gaps_exactly}
 use Rattle.pq_finger.proofs.Rising.{all_member, contains_from_member, member_from_contains}
-use Rattle.pq_oracle.specs.Ora.{Ora}
 use Rattle.pq_oracle.proofs.Answering.{unchanged, shorter}
 use Rattle.pq_loop.specs.Round.{Work, cut_of, run, joined}
 use Rattle.pq_loop.proofs.Joining.{Fit, work_up, joined_long, oracle_later, run_parts}
@@ -157,8 +156,7 @@ contains_map f xs y in' =
 
 contains_from_map : (f : ℕ → ℕ) (xs : List ℕ) (z : ℕ) → Contains (map f xs) z → (y : ℕ) × Contains xs y × (z ≡ f y)
 contains_from_map f xs z in' =
-    let below : in'.0 < length xs = omega (arith, in'.1, length-map xs f) in
-    (
+    let below : in'.0 < length xs = omega (arith, in'.1, length-map xs f) in (
       get_or xs in'.0 0,
       (in'.0, below, get_or_default xs in'.0 (get_or xs in'.0 0) 0 below),
       sym in'.2 ∙ get_or-map f xs in'.0 0 z below,
@@ -218,16 +216,29 @@ moved_inside rules w gates least (work ∷ works) fingers y sound inside fit kep
         moved_gap (map cut_of (work ∷ works)) y ≤ length (joined gates (work ∷ works))
     edge better (inl at) = omega (arith, at.0, size.size)
     edge better (inr at) =
-        omega (arith, at.0, size.size, size.short,
-        all_lost work.answer.improved work.to y (work.to - work.from - length work.answer.gates) better (omega (arith, at.0)))
+        omega (
+          arith,
+          at.0,
+          size.size,
+          size.short,
+          all_lost work.answer.improved work.to y (work.to - work.from - length work.answer.gates) better (omega (arith, at.0)),
+        )
 
     outside : work.answer.improved ≡ true → moved_gap (map cut_of works) y ≤ length (joined gates works) →
         (DropsGap y (cut_of work) → ⊥) ⊎ Any (MakesGap (length gates) y) (map cut_of works) →
         (y < work.to) ⊎ (work.to ≤ y) → (work.from < y) ⊎ (y ≤ work.from) →
         moved_gap (map cut_of (work ∷ works)) y ≤ length (joined gates (work ∷ works))
     outside better rest side (inr above) right =
-        omega (arith, rest, size.size, size.short, size.in_now, size.before, size.behind,
-        all_lost work.answer.improved work.to y (work.to - work.from - length work.answer.gates) better above)
+        omega (
+          arith,
+          rest,
+          size.size,
+          size.short,
+          size.in_now,
+          size.before,
+          size.behind,
+          all_lost work.answer.improved work.to y (work.to - work.from - length work.answer.gates) better above,
+        )
     outside better rest side (inl below) (inr low) = omega (arith, low, size.size)
     outside better rest (inl stays) (inl below) (inl high) = absurd (stays (inr (better, high, below)))
     outside better rest (inr made) (inl below) (inl high) =
@@ -239,9 +250,12 @@ moved_inside rules w gates least (work ∷ works) fingers y sound inside fit kep
         moved_gap (map cut_of (work ∷ works)) y ≤ length (joined gates (work ∷ works))
     whether rest side (inl better) = outside better rest side (cases_lt y work.to) (cases_lt work.from y)
     whether rest side (inr same) =
-        omega (arith, rest,
-        ap (λ (c : List Gate). length c) (joined_as_before rules w gates least work works fit same),
-        none_lost work.answer.improved work.to y (work.to - work.from - length work.answer.gates) same)
+        omega (
+          arith,
+          rest,
+          ap (λ (c : List Gate). length c) (joined_as_before rules w gates least work works fit same),
+          none_lost work.answer.improved work.to y (work.to - work.from - length work.answer.gates) same,
+        )
 
     by : (Kept (length gates) (map cut_of works) fingers y → moved_gap (map cut_of works) y ≤ length (joined gates works)) →
         MakesGap (length gates) y (cut_of work) ⊎ (Kept (length gates) (map cut_of works) fingers y ×

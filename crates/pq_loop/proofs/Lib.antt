@@ -5,3 +5,4 @@ pub mod Joining
 pub mod Keeping
 pub mod Redexes
 pub mod Covering
+pub mod Ending

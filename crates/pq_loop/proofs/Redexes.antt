@@ -1,13 +1,13 @@
-use Rattle.std.proofs.Common.{◌≡◌, ◌≢◌, ℕ, zero, suc, ◌+◌, ◌-◌, ◌<◌, ◌≤◌, Bool, true, false, ◌||◌, eqb, List, [], ◌∷◌, ◌++◌, length, map, take, drop, get_or, refl, ap, sym, subst, ◌∙◌, arith, inl, inr, ◌⊎◌}
-use Rattle.std.specs.Prelude.{All, AllPairs}
-use Rattle.std.proofs.lemmas.Bool.{cases_lt, eqb-true, eq-eqb, ne_eqb, eqb-false, cases_Bool, or_cases, or_right, or_left}
+use Rattle.std.proofs.Common.{◌≡◌, ℕ, suc, ◌+◌, ◌-◌, ◌<◌, ◌≤◌, true, false, eqb, List, [], ◌∷◌, ◌++◌, length, map, take, drop, get_or, refl, ap, sym, subst, ◌∙◌, arith, inl, inr, ◌⊎◌}
+use Rattle.std.specs.Prelude.{All}
+use Rattle.std.proofs.lemmas.Bool.{cases_lt, eqb-true, eq-eqb, cases_Bool, or_cases, or_right, or_left}
 use Rattle.std.proofs.lemmas.List.{drop-drop, get_or-map, get_or_append_left, get_or-append-add, length-map, length-append}
 use Rattle.std.proofs.Math.Seq.{take-add}
 use Rattle.pq_gate.specs.declared.gate.Gate.{Gate}
 use Rattle.pq_gate.specs.declared.gate.Gate.TheVariants.{H}
 use Rattle.pq_gate.specs.Commuting.{Commutes}
 use Rattle.pq_rules.specs.Row.{RowView}
-use Rattle.pq_match.specs.Redex.{RedexView, IsRedex, HasNoRedex, IsMatch, AreFree, gate_at, is_chosen, last_place}
+use Rattle.pq_match.specs.Redex.{RedexView, IsRedex, HasNoRedex, AreFree, gate_at, is_chosen, last_place}
 use Rattle.pq_loop.specs.Round.{run}
 
 -- places after so many more gates in front

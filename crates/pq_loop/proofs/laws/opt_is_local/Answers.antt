@@ -1,0 +1,8 @@
+use Rattle.pq_loop.proofs.Ending.{opt_local, opt_same}
+use Rattle.pq_loop.proofs.laws.opt_is_local.Goals as goal
+
+pub returns-clause-local : goal.returns-clause-local
+returns-clause-local c = opt_local
+
+pub returns-clause-same : goal.returns-clause-same
+returns-clause-same c = opt_same
