@@ -1,2 +1,6 @@
 //! The work of one round: each job's gates are given to the oracle.
 #![tactic(auto)]
+
+mod run;
+
+pub use run::run_round;
