@@ -8,23 +8,13 @@ use Rattle.pq_gate.specs.Matrix.{Same}
 use Rattle.pq_gate.proofs.SameLaws.{same_reflexive, same_transitive}
 use Rattle.pq_rules.specs.Row.{RowView, IsSound}
 use Rattle.pq_finger.specs.Gaps.{first_fingers, segment_from, segment_to}
-use Rattle.pq_finger.proofs.Multiples.{first_rises, first_contained, first_contains}
-use Rattle.pq_finger.proofs.Rising.{All-from_member, contains_from_member}
+use Rattle.pq_finger.proofs.Multiples.{first_contains}
+use Rattle.pq_loop.proofs.OneOpt.{first_is_state}
 use Rattle.pq_loop.specs.Round.{State, IsState, StepView, Round}
 use Rattle.pq_loop.specs.Opt.{Total, Rounds, done, round, first_state, Opt, Local, Cover}
 use Rattle.pq_loop.proofs.Joining.{round_same}
 use Rattle.pq_loop.proofs.Covering.{state_after, cover_after}
 use Rattle.pq_loop.proofs.Redexes.{redex_run_long}
-
--- rounds begin with a state
-first_is_state : (w : ℕ) (gates : List Gate) → 0 < w → IsState (first_state w gates)
-first_is_state w gates some =
-    let P : ℕ → Type 0 = λ finger. finger ≤ length gates in
-    record {
-      rising = first_rises (length gates) w some;
-      inside = All-from_member P (first_fingers (length gates) w) (λ x has.
-          (let found = first_contained (length gates) w x some (contains_from_member x (first_fingers (length gates) w) has) in omega (arith, found.0)));
-    }
 
 -- whose fingers overlook nothing
 first_covers : (rules : List RowView) (w : ℕ) (gates : List Gate) → 0 < w → Cover rules w (first_state w gates)

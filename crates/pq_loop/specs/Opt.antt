@@ -1,5 +1,5 @@
 -- Rounds from the first fingers until there is no finger, and what is left then.
-use Rattle.std.specs.Prelude.{◌≡◌, ℕ, ◌+◌, ◌*◌, ◌%◌, ◌<◌, ◌≤◌, List, [], length, Contains}
+use Rattle.std.specs.Prelude.{ℕ, ◌+◌, ◌%◌, ◌<◌, ◌≤◌, List, [], length, Contains}
 use Rattle.pq_gate.specs.declared.gate.Gate.{Gate}
 use Rattle.pq_rules.specs.Row.{RowView}
 use Rattle.pq_finger.specs.Gaps.{segment_from, segment_to, first_fingers}
