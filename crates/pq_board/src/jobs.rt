@@ -42,8 +42,8 @@ impl Jobs {
         }
     }
 
-    #[tactic(auto, using(crate::proofs::Listing::ends_more, crate::proofs::Listing::lists_more, crate::proofs::Listing::joined))]
     /// Adds a job behind the others. Where memory is refused, the jobs are as they were.
+    #[tactic(auto, using(crate::proofs::Listing::ends_more, crate::proofs::Listing::lists_more, crate::proofs::Listing::joined))]
     pub fn add(&mut self, places: &[u64]) -> Result<(), AllocError>
         requires rising { IsStrictlyIncreasing (concat self.old ++ places.now) }
         requires few { length self.old < MAX_JOBS }
@@ -56,8 +56,8 @@ impl Jobs {
         Ok(())
     }
 
-    #[tactic(auto, using(crate::proofs::Listing::length_lists))]
     /// How many jobs there are.
+    #[tactic(auto, using(crate::proofs::Listing::length_lists))]
     pub fn count(&self) -> u64
         ensures count { result ≡ length self.now }
         ensures few { result ≤ MAX_JOBS }
@@ -65,8 +65,8 @@ impl Jobs {
         self.ends.len() as u64
     }
 
-    #[tactic(auto, using(crate::proofs::Listing::length_lists, crate::proofs::Listing::ends_behind, crate::proofs::Listing::ends_within, crate::proofs::Listing::list_is, crate::proofs::Listing::rising_part))]
     /// The places of a job, which are numbered from 0.
+    #[tactic(auto, using(crate::proofs::Listing::length_lists, crate::proofs::Listing::ends_behind, crate::proofs::Listing::ends_within, crate::proofs::Listing::list_is, crate::proofs::Listing::rising_part))]
     pub fn places(&self, job: u64) -> &[u64]
         requires { job < length self.now }
         ensures places { result.now ≡ slice_index_or self.now job [] }
