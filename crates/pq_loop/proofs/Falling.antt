@@ -12,8 +12,8 @@ use Rattle.pq_finger.proofs.Ascending.{member}
 use Rattle.pq_finger.proofs.Rising.{All-from_member}
 use Rattle.pq_match.specs.Rewrite.{rewritten}
 use Rattle.pq_oracle.specs.Ora.{Answer, Ora, ends, goes}
-use Rattle.pq_oracle.proofs.Shortening.{rewriting_shortens}
-use Rattle.pq_oracle.proofs.Answering.{shorter}
+use Rattle.pq_match.proofs.Moving.{rewriting_shortens}
+use Rattle.pq_oracle.proofs.Answering.{shorter, sound_row}
 use Rattle.pq_loop.specs.Round.{State, StepView, Round, IsState, Work, IsWorkOf, run, cut_of, joined, improved_of}
 use Rattle.pq_loop.proofs.OneRound.{fingers_of}
 
@@ -28,7 +28,7 @@ strictly_shorter rules _ _ sound (ends gates none) = omega arith
 strictly_shorter rules _ _ sound (goes gates redex first answer rest) =
     omega (
       arith,
-      rewriting_shortens rules gates redex first.is sound,
+      rewriting_shortens rules gates redex first.is (sound_row rules gates redex first.is sound),
       shorter rules (rewritten gates first.is.row.replacement redex) answer sound rest,
     )
 

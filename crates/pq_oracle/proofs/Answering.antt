@@ -33,7 +33,7 @@ phase rules _ _ (ends gates none) = omega arith
 phase rules _ _ (goes gates redex first answer rest) = omega arith
 
 -- the row of a redex is sound
-sound_row : (rules : List RowView) (gates : List Gate) (redex : RedexView) (is : IsRedex rules gates redex) → All IsSound rules → IsSound is.row
+pub sound_row : (rules : List RowView) (gates : List Gate) (redex : RedexView) (is : IsRedex rules gates redex) → All IsSound rules → IsSound is.row
 sound_row rules gates redex is sound = IsSound-numbered rules redex.row is.row is.numbered sound
 
 -- each step shortens

@@ -1,5 +1,5 @@
 -- The oracle's answers by one rewriting after another.
-use Rattle.std.proofs.Common.{◌↔◌, Option, Some, None, ◌≡◌, ℕ, ◌+◌, ◌%◌, ◌<◌, Bool, true, false, ◌||◌, List, length, refl, sym, ap, ◌∙◌, subst, arith}
+use Rattle.std.proofs.Common.{◌≤◌, ◌↔◌, Option, Some, None, ◌≡◌, ℕ, ◌+◌, ◌%◌, ◌<◌, Bool, true, false, ◌||◌, List, length, refl, sym, ap, ◌∙◌, subst, arith}
 use Rattle.pq_gate.specs.declared.gate.Gate.{Gate}
 use Rattle.pq_gate.specs.Circuit.{IsCircuit}
 use Rattle.pq_gate.specs.Matrix.{Same}
@@ -73,39 +73,47 @@ pub last_one : (rules : List RowView) (old now : List Gate) (so_far : Outcome) �
 last_one rules old now so_far small leads none =
     subst (Ora rules old) (ended now so_far.improved so_far.phase small) (leads (untouched now) (ends now none))
 
--- one rewriting more, of the redex that was found
-pub found_one : (rules : List RowView) (old now new : List Gate) (so_far : Outcome) (redex : Redex) (phase : ℕ)
-    → LeadsTo rules old now so_far → FindsWithin rules now (length now) (Some redex) → Rewrites rules now redex new phase
-    → LeadsTo rules old new (record { improved = true; phase = (so_far.phase + phase) % 8 })
-found_one rules old now new so_far redex phase leads found rewrites =
-    let done = rewrites found.wires found.first.is in
-    one_more rules old now new so_far (seen redex found.wires) found.first phase leads done.gates done.turn
+-- what the oracle keeps from the old gates to those that it has now
+pub record IsLed (rules : List RowView) (old now : List Gate) (so_far : Outcome) : Type 0 where
+  pub leads : LeadsTo rules old now so_far
+  pub small : so_far.phase < 8
+  pub same : (n : ℕ) → IsCircuit n old → Same n old now so_far.phase
+  pub shorter : length now ≤ length old
 
 -- a redex that was found is one
 pub found_redex : (rules : List RowView) (gates : List Gate) (redex : Redex) → FindsWithin rules gates (length gates) (Some redex) → IsRedexOf rules gates redex
 found_redex rules gates redex found = record { wires = found.wires; is = found.first.is; few = found.padded.few }
 
+-- before the first rewriting
+pub led_yet : (rules : List RowView) (gates : List Gate) → IsLed rules gates gates (record { improved = false; phase = 0 })
+led_yet rules gates = record { leads = none_yet rules gates; small = omega arith; same = λ n circuit. same_reflexive n gates circuit; shorter = omega arith }
+
+-- one rewriting more, of the redex that was found
+pub led_on : (rules : List RowView) (old now new : List Gate) (so_far : Outcome) (redex : Redex) (phase : ℕ)
+    → IsLed rules old now so_far → FindsWithin rules now (length now) (Some redex) → Rewrites rules now redex new phase
+    → ((n : ℕ) → IsCircuit n now → Same n now new phase) → length new < length now
+    → IsLed rules old new (record { improved = true; phase = (so_far.phase + phase) % 8 })
+led_on rules old now new so_far redex phase led found rewrites same shorter =
+    let done = rewrites found.wires found.first.is in
+    record {
+      leads = one_more rules old now new so_far (seen redex found.wires) found.first phase led.leads done.gates done.turn;
+      small = omega arith;
+      same = λ n circuit. (let here = led.same n circuit in same_transitive n so_far.phase phase old now new here (same n here.right));
+      shorter = omega (arith, shorter, led.shorter);
+    }
+
 -- none was found any more
-pub last_found : (rules : List RowView) (old now : List Gate) (so_far : Outcome) → so_far.phase < 8 → LeadsTo rules old now so_far
+pub led_oracle : (rules : List RowView) (old now : List Gate) (so_far : Outcome) → IsLed rules old now so_far
     → FindsWithin rules now (length now) None → Ora rules old (answer_of now so_far)
-last_found rules old now so_far small leads none = last_one rules old now so_far small leads (first_of_all rules now none)
+led_oracle rules old now so_far led none = last_one rules old now so_far led.small led.leads (first_of_all rules now none)
 
--- gates have their own matrix, and turn by the phases of both steps
-pub same_yet : (gates : List Gate) (n : ℕ) → IsCircuit n gates → Same n gates gates 0
-same_yet gates n circuit = same_reflexive n gates circuit
+pub led_clean : (rules : List RowView) (now : List Gate) → FindsWithin rules now (length now) None → HasNoRedex rules now
+led_clean rules now none = first_of_all rules now none
 
-pub same_on : (old now new : List Gate) (j k : ℕ) → ((n : ℕ) → IsCircuit n old → Same n old now j) → ((n : ℕ) → IsCircuit n now → Same n now new k)
-    → (n : ℕ) → IsCircuit n old → Same n old new ((j + k) % 8)
-same_on old now new j k first second n circuit =
-    let here = first n circuit in same_transitive n j k old now new here (second n here.right)
-
-pub last_clean : (rules : List RowView) (now : List Gate) → FindsWithin rules now (length now) None → HasNoRedex rules now
-last_clean rules now none = first_of_all rules now none
-
-pub last_unchanged : (rules : List RowView) (old now : List Gate) (so_far : Outcome) → so_far.phase < 8 → LeadsTo rules old now so_far
+pub led_unchanged : (rules : List RowView) (old now : List Gate) (so_far : Outcome) → IsLed rules old now so_far
     → FindsWithin rules now (length now) None → so_far.improved ≡ false → (now ≡ old) × (so_far.phase ≡ 0)
-last_unchanged rules old now so_far small leads none = unchanged rules old _ (last_found rules old now so_far small leads none)
+led_unchanged rules old now so_far led none = unchanged rules old _ (led_oracle rules old now so_far led none)
 
-pub last_improved : (rules : List RowView) (old now : List Gate) (so_far : Outcome) → so_far.phase < 8 → LeadsTo rules old now so_far
+pub led_improved : (rules : List RowView) (old now : List Gate) (so_far : Outcome) → IsLed rules old now so_far
     → FindsWithin rules now (length now) None → so_far.improved ≡ false ↔ HasNoRedex rules old
-last_improved rules old now so_far small leads none = improved rules old _ (last_found rules old now so_far small leads none)
+led_improved rules old now so_far led none = improved rules old _ (led_oracle rules old now so_far led none)

@@ -4,5 +4,4 @@ pub mod Meaning
 pub mod OneMore
 pub mod Reduced
 pub mod Improving
-pub mod Shortening
 pub mod OneAnswer

@@ -8,8 +8,9 @@ use Rattle.pq_match.specs.First.{IsFirst, FirstWithin}
 use Rattle.pq_match.specs.Rewrite.{rewritten}
 use Rattle.pq_match.proofs.OneFirst.{one_row, one_first, first_of_all}
 use Rattle.pq_match.proofs.SomeFirst.{some_first}
+use Rattle.pq_match.proofs.Moving.{rewriting_shortens}
 use Rattle.pq_oracle.specs.Ora.{Answer, untouched, after_one, Ora, ends, goes}
-use Rattle.pq_oracle.proofs.Shortening.{rewriting_shortens}
+use Rattle.pq_oracle.proofs.Answering.{sound_row}
 
 module _ (rules : List RowView) (sound : All IsSound rules) where
   -- one step, where each shorter list has its answer
@@ -17,7 +18,7 @@ module _ (rules : List RowView) (sound : All IsSound rules) where
       (found : Option RedexView) → FirstWithin rules gates (length gates) found → (answer : Answer) × Ora rules gates answer
   some_step gates before None none = (untouched gates, ends gates (first_of_all rules gates none))
   some_step gates before (Some redex) first =
-      let rest = before (rewritten gates first.is.row.replacement redex) (rewriting_shortens rules gates redex first.is sound) in
+      let rest = before (rewritten gates first.is.row.replacement redex) (rewriting_shortens rules gates redex first.is (sound_row rules gates redex first.is sound)) in
       (after_one first.is.row.phase rest.0, goes gates redex first rest.0 rest.1)
 
   some_below : (n : ℕ) (gates : List Gate) → length gates < n → (answer : Answer) × Ora rules gates answer
