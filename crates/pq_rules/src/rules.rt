@@ -1,4 +1,4 @@
-ghost use Rattle.std.specs.Prelude.{◌≡◌, ℕ, ◌+◌, ◌<◌, ◌≤◌, ◌++◌, [], ◌∷◌, cond, length, map, IfOk, IfSome, slice_index_or, vec_len};
+ghost use Rattle.std.specs.Prelude.{◌≡◌, ℕ, ◌+◌, ◌<◌, ◌≤◌, ◌++◌, [], ◌∷◌, All, cond, length, map, IfOk, IfSome, slice_index_or, vec_len};
 ghost use Rattle.std.specs.Option.{option_copied};
 ghost use Rattle.pq_rules.specs.Kinds.{kind_of, begins, numbers_starting, row_numbered};
 ghost use Rattle.pq_rules.specs.Row.{RowView, IsSound};
@@ -30,12 +30,13 @@ impl Model for Rules {
 
     ghost Value = { List RowView };
 
-    ghost use Rattle.std.specs.Prelude.{◌≡◌, ◌<◌, ◌≤◌, slice_index_or, vec_len};
+    ghost use Rattle.std.specs.Prelude.{◌≡◌, ◌<◌, ◌≤◌, All, slice_index_or, vec_len};
     ghost use Rattle.pq_rules.specs.Kinds.{numbers_starting};
+    ghost use Rattle.pq_rules.specs.Row.{IsSound};
 
     ghost view = { λ a. a.rows.items };
 
-    ghost invariant = { λ a. (vec_len a.rows ≤ 308) × (vec_len a.starting ≡ 10) ×
+    ghost invariant = { λ a. All IsSound a.rows.items × (vec_len a.rows ≤ 308) × (vec_len a.starting ≡ 10) ×
         ((k : ℕ) (d : _) → k < 10 → (slice_index_or a.starting.items k d).items ≡ numbers_starting k 1 a.rows.items) };
 }
 
@@ -72,12 +73,14 @@ impl Rules {
         ensures { IfOk result (λ rules. rules ≡ rows.items) }
     {
         let starting = index_of(alloc, rows.as_slice())?;
+        rows_are_sound(rows.as_slice());
         Ok(Rules { rows, starting })
     }
 
     /// How many rows there are.
     pub fn count(&self) -> u32
-        ensures { result ≡ length self.now }
+        ensures count { result ≡ length self.now }
+        ensures sound { All IsSound self.now }
     {
         self.rows.len() as u32
     }
@@ -105,6 +108,15 @@ impl Rules {
         ensures { result.now ≡ numbers_starting (kind_of gate) 1 self.now }
     {
         self.starting[kind(gate) as usize].as_slice()
+    }
+}
+
+// All rows are sound, since each of them is.
+fn rows_are_sound(rows: &[Row])
+    ensures { All IsSound rows.now }
+{
+    for row in rows {
+        let _phase = row.phase();
     }
 }
 
