@@ -11,14 +11,15 @@ use Rattle.pq_finger.specs.Gaps.{DropsGap, segment_from, segment_to, kept_gaps, 
 use Rattle.pq_finger.proofs.Putting.{increasing-ascending}
 use Rattle.pq_finger.proofs.Rising.{All-from_member, contains_from_member}
 use Rattle.pq_oracle.proofs.Answering.{clean, improved as better_where}
-use Rattle.pq_loop.specs.Round.{State, IsState, Work, cut_of, StepView, Round, joined, run}
+use Rattle.pq_loop.specs.declared.one_round.Step.{Step}
+use Rattle.pq_loop.specs.Round.{State, IsState, Work, cut_of, Round, joined, run}
 use Rattle.pq_loop.specs.Opt.{Cover}
 use Rattle.pq_loop.proofs.Joining.{Fit, round_fits, oracle_later, run_front}
 use Rattle.pq_loop.proofs.Keeping.{Sizes, sizes, joined_short, joined_as_before, Kept, kept_edge, kept_more, kept_from_new, new_from_kept, moved_inside, lost_none, lost_fits, none_lost, all_lost}
 use Rattle.pq_loop.proofs.Redexes.{redex_in_run, redex_run_long}
 
 -- a round leads a state to a state
-pub state_after : (rules : List RowView) (w : ℕ) (before after : State) (step : StepView) → 0 < w → All IsSound rules → IsState before →
+pub state_after : (rules : List RowView) (w : ℕ) (before after : State) (step : Step) → 0 < w → All IsSound rules → IsState before →
     Round rules w before after step → IsState after
 state_after rules w before after step some sound is round =
     let live : ℕ = length before.gates in
@@ -324,7 +325,7 @@ cover_all rules w gates fingers least (work ∷ works) sound fit old =
     cover_step rules w gates fingers least work works sound fit (cover_all rules w gates fingers work.to works sound fit.3 old)
 
 -- a round overlooks nothing
-pub cover_after : (rules : List RowView) (w : ℕ) (before after : State) (step : StepView) → 0 < w → All IsSound rules → IsState before →
+pub cover_after : (rules : List RowView) (w : ℕ) (before after : State) (step : Step) → 0 < w → All IsSound rules → IsState before →
     Round rules w before after step → Cover rules w before → Cover rules w after
 cover_after rules w before after step some sound is round old =
     let new : Cover rules w (state_of before.gates before.fingers round.works) =

@@ -10,7 +10,8 @@ use Rattle.pq_rules.specs.Row.{RowView, IsSound}
 use Rattle.pq_finger.specs.Gaps.{first_fingers, segment_from, segment_to}
 use Rattle.pq_finger.proofs.Multiples.{first_contains}
 use Rattle.pq_loop.proofs.OneOpt.{first_is_state}
-use Rattle.pq_loop.specs.Round.{State, IsState, StepView, Round}
+use Rattle.pq_loop.specs.declared.one_round.Step.{Step}
+use Rattle.pq_loop.specs.Round.{State, IsState, Round}
 use Rattle.pq_loop.specs.Opt.{Total, Rounds, done, round, first_state, Opt, Local, Cover}
 use Rattle.pq_loop.proofs.Joining.{round_same}
 use Rattle.pq_loop.proofs.Covering.{state_after, cover_after}
@@ -80,7 +81,7 @@ opt_same rules w gates total n some sound opt circuit =
 -- in a round the fingers and twice the gates fall by the selected fingers at least
 abbrev pub Falls : Type 0
 Falls =
-    (rules : List RowView) (w : ℕ) (before after : State) (step : StepView) → 0 < w → All IsSound rules → IsState before →
+    (rules : List RowView) (w : ℕ) (before after : State) (step : Step) → 0 < w → All IsSound rules → IsState before →
     Round rules w before after step →
     length after.fingers + 2 * length after.gates + step.selected ≤ length before.fingers + 2 * length before.gates
 

@@ -14,7 +14,8 @@ use Rattle.pq_match.specs.Rewrite.{rewritten}
 use Rattle.pq_oracle.specs.Ora.{Answer, Ora, ends, goes}
 use Rattle.pq_match.proofs.Moving.{rewriting_shortens}
 use Rattle.pq_oracle.proofs.Answering.{shorter, sound_row}
-use Rattle.pq_loop.specs.Round.{State, StepView, Round, IsState, Work, IsWorkOf, run, cut_of, joined, improved_of}
+use Rattle.pq_loop.specs.declared.one_round.Step.{Step}
+use Rattle.pq_loop.specs.Round.{State, Round, IsState, Work, IsWorkOf, run, cut_of, joined, improved_of}
 use Rattle.pq_loop.proofs.OneRound.{fingers_of}
 
 -- 1 where it holds
@@ -197,7 +198,7 @@ new_fingers_few live window works fingers selects =
     )
 
 -- the fingers and twice the gates fall
-pub round_falls : (rules : List RowView) (window : ℕ) (before after : State) (step : StepView) → 0 < window → All IsSound rules → IsState before →
+pub round_falls : (rules : List RowView) (window : ℕ) (before after : State) (step : Step) → 0 < window → All IsSound rules → IsState before →
     Round rules window before after step →
     length after.fingers + 2 * length after.gates + step.selected ≤ length before.fingers + 2 * length before.gates
 round_falls rules window before after step positive sound state is =
@@ -221,7 +222,7 @@ selected_some window (gap ∷ gaps) some =
     let may : leb 0 gap ≡ true = le-leb 0 gap (omega arith) in
     rw may (omega arith)
 
-pub round_selects : (rules : List RowView) (window : ℕ) (before after : State) (step : StepView) → Round rules window before after step →
+pub round_selects : (rules : List RowView) (window : ℕ) (before after : State) (step : Step) → Round rules window before after step →
     0 < length before.fingers → 0 < step.selected
 round_selects rules window before after step is some =
     omega (

@@ -13,7 +13,8 @@ use Rattle.pq_finger.proofs.Rising.{all_member, All-from_member, contains_from_m
 use Rattle.pq_finger.proofs.Selections.{selected_contained, segments_apart}
 use Rattle.pq_oracle.specs.Ora.{Ora}
 use Rattle.pq_oracle.proofs.Answering.{same}
-use Rattle.pq_loop.specs.Round.{State, IsState, Work, IsWorkOf, StepView, Round, run, joined, phases_of}
+use Rattle.pq_loop.specs.declared.one_round.Step.{Step}
+use Rattle.pq_loop.specs.Round.{State, IsState, Work, IsWorkOf, Round, run, joined, phases_of}
 
 -- The works are of segments of these gates, in order and apart, the first from the gap `least` on.
 abbrev pub Fit : List RowView → ℕ → List Gate → ℕ → List Work → Type 0
@@ -123,7 +124,7 @@ fit_from rules w gates least (work ∷ works) each inside low apart =
           (λ i j d lt in'. apart (suc i) (suc j) d (omega arith) (omega arith)),
     )
 
-pub round_fits : (rules : List RowView) (w : ℕ) (before after : State) (step : StepView) → IsState before →
+pub round_fits : (rules : List RowView) (w : ℕ) (before after : State) (step : Step) → IsState before →
     (round : Round rules w before after step) → Fit rules w before.gates 0 round.works
 round_fits rules w before after step is round =
     let P : ℕ → Type 0 = λ finger. finger ≤ length before.gates in
@@ -137,7 +138,7 @@ round_fits rules w before after step is round =
     (λ k d lt. omega arith)
     (subst (AllPairs R) (sym round.selects) (segments_apart w (length before.gates) before.fingers))
 
-pub round_same : (rules : List RowView) (w : ℕ) (before after : State) (step : StepView) (n : ℕ) → 0 < w → All IsSound rules → IsState before →
+pub round_same : (rules : List RowView) (w : ℕ) (before after : State) (step : Step) (n : ℕ) → 0 < w → All IsSound rules → IsState before →
     Round rules w before after step → IsCircuit n before.gates → Same n before.gates after.gates step.phase
 round_same rules w before after step n some sound is round circuit =
     let both : Same n before.gates (joined before.gates round.works) (phases_of round.works % 8) =

@@ -6,7 +6,8 @@ use Rattle.pq_gate.specs.declared.gate.Gate.{Gate}
 use Rattle.pq_rules.specs.Row.{RowView, IsSound}
 use Rattle.pq_finger.specs.Gaps.{first_fingers}
 use Rattle.pq_finger.proofs.Multiples.{first_rises, first_contained}
-use Rattle.pq_loop.specs.Round.{State, StepView, Round, IsState}
+use Rattle.pq_loop.specs.declared.one_round.Step.{Step}
+use Rattle.pq_loop.specs.Round.{State, Round, IsState}
 use Rattle.pq_loop.specs.Opt.{Total, settled, after_round, Rounds, Opt, done, round, first_state}
 use Rattle.pq_loop.proofs.OneRound.{round_some, round_only}
 use Rattle.pq_loop.proofs.Falling.{round_falls, round_selects}
@@ -16,7 +17,7 @@ module _ (rules : List RowView) (sound : All IsSound rules) (window : ℕ) where
   one_at_end none (done gates) = refl
   one_at_end none (round before after step total some is rest) = absurd (omega (arith, some, none))
 
-  one_step : {state : State} {other : Total} (after : State) (step : StepView) (total : Total) → 0 < length state.fingers →
+  one_step : {state : State} {other : Total} (after : State) (step : Step) (total : Total) → 0 < length state.fingers →
       Round rules window state after step → ((next : Total) → Rounds rules window after next → total ≡ next) →
       Rounds rules window state other → after_round step total ≡ other
   one_step after step total some is same (done gates) = absurd (omega (arith, some))
@@ -48,7 +49,7 @@ first_is_state window gates some = record {
 
 -- Rounds end, where each round leads a state to a state.
 module _ (rules : List RowView) (sound : All IsSound rules) (window : ℕ) (positive : 0 < window)
-    (state_after : (before after : State) (step : StepView) → IsState before → Round rules window before after step → IsState after) where
+    (state_after : (before after : State) (step : Step) → IsState before → Round rules window before after step → IsState after) where
   total_below : (n : ℕ) (gates : List Gate) (fingers : List ℕ) → IsState (record { gates = gates; fingers = fingers }) →
       length fingers + 2 * length gates < n → (total : Total) × Rounds rules window (record { gates = gates; fingers = fingers }) total
   total_below zero gates fingers state few = absurd (omega arith)
@@ -67,7 +68,7 @@ module _ (rules : List RowView) (sound : All IsSound rules) (window : ℕ) (posi
       total_below (suc (length state.fingers + 2 * length gates)) gates state.fingers (first_is_state window gates positive) (omega arith)
 
 -- the optimiser has a result
-pub opt_some : ((rules : List RowView) (window : ℕ) (before after : State) (step : StepView) → 0 < window → All IsSound rules →
+pub opt_some : ((rules : List RowView) (window : ℕ) (before after : State) (step : Step) → 0 < window → All IsSound rules →
     IsState before → Round rules window before after step → IsState after) →
     (rules : List RowView) (window : ℕ) (gates : List Gate) → 0 < window → All IsSound rules → (total : Total) × Opt rules window gates total
 opt_some state_after rules window gates positive sound =

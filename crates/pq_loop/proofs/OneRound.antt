@@ -7,7 +7,8 @@ use Rattle.pq_rules.specs.Row.{RowView, IsSound}
 use Rattle.pq_finger.specs.Gaps.{segment_from, segment_to, selected, new_fingers}
 use Rattle.pq_oracle.specs.Ora.{Ora}
 use Rattle.pq_oracle.proofs.OneAnswer.{some_answer, one_answer}
-use Rattle.pq_loop.specs.Round.{State, StepView, Round, Work, IsWorkOf, run, cut_of, joined, improved_of, phases_of}
+use Rattle.pq_loop.specs.declared.one_round.Step.{Step}
+use Rattle.pq_loop.specs.Round.{State, Round, Work, IsWorkOf, run, cut_of, joined, improved_of, phases_of}
 
 -- the fingers of the works
 abbrev pub fingers_of : List Work → List ℕ
@@ -63,7 +64,7 @@ module _ (rules : List RowView) (sound : All IsSound rules) (window : ℕ) (gate
 
 -- each state has a round
 pub round_some : (rules : List RowView) (window : ℕ) (before : State) → All IsSound rules →
-    (after : State) × (step : StepView) × Round rules window before after step
+    (after : State) × (step : Step) × Round rules window before after step
 round_some rules window before sound =
     let found : Works rules window before.gates (selected window before.fingers) =
     some_works rules sound window before.gates (selected window before.fingers) in
@@ -89,7 +90,7 @@ round_some rules window before sound =
     )
 
 -- and it has one result
-pub round_only : (rules : List RowView) (window : ℕ) (before after other : State) (step another : StepView) → All IsSound rules →
+pub round_only : (rules : List RowView) (window : ℕ) (before after other : State) (step another : Step) → All IsSound rules →
     Round rules window before after step → Round rules window before other another → (after ≡ other) × (step ≡ another)
 round_only rules window before after other step another sound left right =
     let works : left.works ≡ right.works =

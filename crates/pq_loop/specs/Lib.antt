@@ -5,3 +5,5 @@ pub use Rattle.pq_match.specs.Redex
 pub use Rattle.pq_oracle.specs.Ora
 pub mod Round
 pub mod Opt
+pub mod Loops
+pub mod Segments

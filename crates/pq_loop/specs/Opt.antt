@@ -4,7 +4,8 @@ use Rattle.pq_gate.specs.declared.gate.Gate.{Gate}
 use Rattle.pq_rules.specs.Row.{RowView}
 use Rattle.pq_finger.specs.Gaps.{segment_from, segment_to, first_fingers}
 use Rattle.pq_match.specs.Redex.{RedexView, IsRedex, HasNoRedex}
-use Rattle.pq_loop.specs.Round.{State, StepView, Round, run}
+use Rattle.pq_loop.specs.declared.one_round.Step.{Step}
+use Rattle.pq_loop.specs.Round.{State, Round, run}
 
 -- the gates that are left, the rounds, the oracle's calls (the selected fingers of all rounds), and the phase
 pub record Total : Type 0 where
@@ -18,7 +19,7 @@ abbrev pub settled : List Gate → Total
 settled gates = record { gates = gates; rounds = 0; calls = 0; phase = 0 }
 
 -- a round, and then the others
-abbrev pub after_round : StepView → Total → Total
+abbrev pub after_round : Step → Total → Total
 after_round step total = record {
   gates = total.gates;
   rounds = 1 + total.rounds;
@@ -29,7 +30,7 @@ after_round step total = record {
 -- rounds follow until there is no finger
 pub data Rounds (rules : List RowView) (omega : ℕ) : State → Total → Type 0 where
   done : (gates : List Gate) → Rounds rules omega (record { gates = gates; fingers = [] }) (settled gates)
-  round : (before after : State) (step : StepView) (total : Total) → 0 < length before.fingers
+  round : (before after : State) (step : Step) (total : Total) → 0 < length before.fingers
       → Round rules omega before after step → Rounds rules omega after total → Rounds rules omega before (after_round step total)
 
 -- the state that rounds begin with

@@ -6,6 +6,7 @@ use Rattle.pq_rules.specs.Row.{RowView}
 use Rattle.pq_array.specs.Cells.{spliced}
 use Rattle.pq_finger.specs.Gaps.{GapCut, segment_from, segment_to, selected, new_fingers}
 use Rattle.pq_oracle.specs.Ora.{Answer, Ora}
+use Rattle.pq_loop.specs.declared.one_round.Step.{Step}
 
 -- The gates, and the fingers: gaps where the gates are still to be looked at. A gap is numbered by the gates
 -- before it.
@@ -60,16 +61,9 @@ abbrev pub phases_of : List Work → ℕ
 phases_of [] = 0
 phases_of (work ∷ works) = work.answer.phase + phases_of works
 
--- the numbers of a round: the selected fingers, the improved segments, the removed gates, and the phase
-pub record StepView : Type 0 where
-  pub selected : ℕ
-  pub improved : ℕ
-  pub removed : ℕ
-  pub phase : ℕ
-
 -- A round: the segments of the selected fingers are given to the oracle, all at once, and its answers stand
 -- in their places; the selected fingers are dropped, and so on (`new_fingers`).
-pub record Round (rules : List RowView) (omega : ℕ) (before after : State) (step : StepView) : Type 0 where
+pub record Round (rules : List RowView) (omega : ℕ) (before after : State) (step : Step) : Type 0 where
   pub works : List Work
   pub selects : map (λ (work : Work). work.finger) works ≡ selected omega before.fingers
   pub each : All (IsWorkOf rules omega before.gates) works

@@ -4,14 +4,15 @@ ghost use Rattle.pq_gate.specs.Circuit.{IsCircuit};
 ghost use Rattle.pq_gate.specs.Matrix.{Same};
 ghost use Rattle.pq_finger.specs.Gaps.{first_fingers};
 ghost use Rattle.pq_match.specs.Row.{RowView, IsSound};
-ghost use Rattle.pq_loop.specs.Round.{State, StepView, Round, IsState};
+ghost use Rattle.pq_loop.specs.declared.one_round.Step.{Step};
+ghost use Rattle.pq_loop.specs.Round.{State, Round, IsState};
 ghost use Rattle.pq_loop.specs.Opt.{Total, Rounds, Opt, Local, Cover};
 
 /// Under sound rules a round leads each state to exactly one state, with one set of numbers.
 pub fn rounds_have_one_result()
     ensures some { (rules : List RowView) (window : ℕ) (before : State) → All IsSound rules
-        → (after : State) × (step : StepView) × Round rules window before after step }
-    ensures only { (rules : List RowView) (window : ℕ) (before after other : State) (step another : StepView) → All IsSound rules
+        → (after : State) × (step : Step) × Round rules window before after step }
+    ensures only { (rules : List RowView) (window : ℕ) (before after other : State) (step another : Step) → All IsSound rules
         → Round rules window before after step → Round rules window before other another → (after ≡ other) × (step ≡ another) }
 {}
 
@@ -19,16 +20,16 @@ pub fn rounds_have_one_result()
 /// segment, it does after. The matrix turns by the round's phase, and the fingers and twice the gates fall
 /// by the selected fingers at least.
 pub fn rounds_keep_cover()
-    ensures state { (rules : List RowView) (window : ℕ) (before after : State) (step : StepView) → 0 < window → All IsSound rules → IsState before
+    ensures state { (rules : List RowView) (window : ℕ) (before after : State) (step : Step) → 0 < window → All IsSound rules → IsState before
         → Round rules window before after step → IsState after }
-    ensures cover { (rules : List RowView) (window : ℕ) (before after : State) (step : StepView) → 0 < window → All IsSound rules → IsState before
+    ensures cover { (rules : List RowView) (window : ℕ) (before after : State) (step : Step) → 0 < window → All IsSound rules → IsState before
         → Round rules window before after step → Cover rules window before → Cover rules window after }
-    ensures same { (rules : List RowView) (window : ℕ) (before after : State) (step : StepView) (n : ℕ) → 0 < window → All IsSound rules → IsState before
+    ensures same { (rules : List RowView) (window : ℕ) (before after : State) (step : Step) (n : ℕ) → 0 < window → All IsSound rules → IsState before
         → Round rules window before after step → IsCircuit n before.gates → Same n before.gates after.gates step.phase }
-    ensures bound { (rules : List RowView) (window : ℕ) (before after : State) (step : StepView) → 0 < window → All IsSound rules → IsState before
+    ensures bound { (rules : List RowView) (window : ℕ) (before after : State) (step : Step) → 0 < window → All IsSound rules → IsState before
         → Round rules window before after step
         → length after.fingers + 2 * length after.gates + step.selected ≤ length before.fingers + 2 * length before.gates }
-    ensures selects { (rules : List RowView) (window : ℕ) (before after : State) (step : StepView) → Round rules window before after step
+    ensures selects { (rules : List RowView) (window : ℕ) (before after : State) (step : Step) → Round rules window before after step
         → 0 < length before.fingers → 0 < step.selected }
 {}
 

@@ -1,0 +1,193 @@
+ghost use Rattle.std.specs.Prelude.{◌≡◌, ◌↔◌, ◌+◌, ◌*◌, ◌%◌, ◌<◌, ◌≤◌, ℕ, [], IfOk, IsTrue, length};
+ghost use Rattle.pq_array.specs.Cells.{live};
+ghost use Rattle.pq_gate.specs.Circuit.{IsCircuit};
+ghost use Rattle.pq_gate.specs.Matrix.{Same};
+ghost use Rattle.pq_finger.specs.Gaps.{first_fingers};
+ghost use Rattle.pq_loop.specs.Round.{Round};
+ghost use Rattle.pq_loop.specs.Opt.{first_state, Local};
+ghost use Rattle.pq_loop.specs.Loops.{IsCovered};
+
+use crate::one_round::{Step, work_round};
+use crate::segments::gaps_of;
+use pq_array::GateArray;
+use pq_finger::Fingers;
+use pq_gate::{Gate, GateList};
+use pq_rules::Rules;
+use std::alloc::{AllocError, Global};
+use std::marker::Model;
+
+/// Rounds over the gates of a circuit. Contracts see the state, which is the gates that are left and the
+/// fingers as gaps; the window length Omega and the rules; and the rounds, the oracle's calls and the phase
+/// so far. The type keeps that nothing is overlooked: each run of at most Omega gates that has a redex lies
+/// in the segment of a finger.
+#[derive(Drop)]
+pub struct Loop {
+    array: GateArray,
+
+    // at places of live gates, or at the end
+    fingers: Fingers,
+    rules: Rules,
+    omega: u32,
+    rounds: u64,
+    calls: u64,
+    phase: u8,
+    first_fingers: u64,
+}
+
+impl Model for Loop {
+    ghost use Rattle.pq_loop.specs.Loops.{LoopView};
+
+    ghost Value = { LoopView };
+
+    ghost use Rattle.pq_loop.specs.Segments.{state_of};
+    ghost use Rattle.pq_loop.specs.Loops.{IsKept};
+
+    ghost view = { λ a. record { state = state_of a.array a.fingers; omega = a.omega; rules = a.rules; rounds = a.rounds; calls = a.calls; phase = a.phase; first_fingers = a.first_fingers } };
+
+    ghost invariant = { λ a. IsKept a.array a.fingers a.rules a.omega a.rounds a.calls a.phase };
+}
+
+/// What is left when there is no finger any more.
+#[derive(Drop)]
+pub struct Finished {
+    /// The gates.
+    pub gates: GateList,
+
+    /// How many rounds there were.
+    pub rounds: u64,
+
+    /// How often the oracle was called: the selected fingers of all rounds.
+    pub calls: u64,
+
+    /// By how many eighths of a whole turn the gates that went in turn more than these, from 0 to 7.
+    pub phase: u8,
+
+    /// How many fingers there were in the beginning.
+    pub first_fingers: u64,
+}
+
+impl Loop {
+    /// The loop before its first round: the first fingers stand at each multiple of Omega that is less than
+    /// the number of gates. Omega is 2 to 1,024, and there are at most 1,048,576 gates.
+    pub fn open(
+        alloc: Global,
+        gates: &[Gate],
+        omega: u32,
+        rules: Rules,
+    ) -> Result<Loop, AllocError>
+        requires least { 2 ≤ omega }
+        requires most { omega ≤ 1024 }
+        requires few { length gates.now ≤ 1048576 }
+        ensures state { IfOk result (λ made. made.state ≡ first_state omega gates.now) }
+        ensures omega { IfOk result (λ made. made.omega ≡ omega) }
+        ensures rules { IfOk result (λ made. made.rules ≡ rules) }
+        ensures counts { IfOk result (λ made. (made.rounds ≡ 0) × (made.calls ≡ 0) × (made.phase ≡ 0)) }
+        ensures first_fingers { IfOk result (λ made. made.first_fingers ≡ length (first_fingers (length gates.now) omega)) }
+    {
+        let array = GateArray::open(alloc, gates)?;
+        let fingers = Fingers::first(alloc, gates.len() as u64, omega)?;
+        let first_fingers = fingers.places().len() as u64;
+        Ok(Loop {
+            array,
+            fingers,
+            rules,
+            omega,
+            rounds: 0,
+            calls: 0,
+            phase: 0,
+            first_fingers,
+        })
+    }
+
+    /// Whether there is no finger any more.
+    pub fn is_done(&self) -> bool
+        ensures { IsTrue result ↔ (self.now.state.fingers ≡ []) }
+    {
+        self.fingers.places().is_empty()
+    }
+
+    /// How many fingers there are.
+    pub fn fingers_left(&self) -> u64
+        ensures { result ≡ length self.now.state.fingers }
+    {
+        self.fingers.places().len() as u64
+    }
+
+    /// One round, while there is a finger.
+    pub fn round(self, alloc: Global) -> Result<(Loop, Step), AllocError>
+        requires { 0 < length self.state.fingers }
+        ensures round { IfOk result (λ made. Round self.rules self.omega self.state made.0.state made.1) }
+        ensures settings { IfOk result (λ made. (made.0.omega ≡ self.omega) × (made.0.rules ≡ self.rules) × (made.0.first_fingers ≡ self.first_fingers)) }
+        ensures rounds { IfOk result (λ made. made.0.rounds ≡ self.rounds + 1) }
+        ensures calls { IfOk result (λ made. made.0.calls ≡ self.calls + made.1.selected) }
+        ensures phase { IfOk result (λ made. made.0.phase ≡ (self.phase + made.1.phase) % 8) }
+        ensures same { IfOk result (λ made. (n : ℕ) → IsCircuit n self.state.gates → Same n self.state.gates made.0.state.gates made.1.phase) }
+        ensures covered { IfOk result (λ made. IsCovered self × IsCovered made.0) }
+        ensures bound { IfOk result (λ made. length made.0.state.fingers + 2 * length made.0.state.gates + made.1.selected
+            ≤ length self.state.fingers + 2 * length self.state.gates) }
+        ensures some { IfOk result (λ made. 0 < made.1.selected) }
+    {
+        let Loop {
+            mut array,
+            fingers,
+            rules,
+            omega,
+            rounds,
+            calls,
+            phase,
+            first_fingers,
+        } = self;
+        let (fingers, step) = work_round(alloc, &mut array, &fingers, &rules, omega)?;
+        let after = Loop {
+            array,
+            fingers,
+            rules,
+            omega,
+            rounds: rounds + 1,
+            calls: calls + step.selected,
+            phase: (phase + step.phase) % 8,
+            first_fingers,
+        };
+        Ok((after, step))
+    }
+
+    /// What is left, where there is no finger any more: no run of at most Omega gates has a redex.
+    pub fn finish(self, alloc: Global) -> Result<Finished, AllocError>
+        requires { self.state.fingers ≡ [] }
+        ensures gates { IfOk result (λ made. made.gates.items ≡ self.state.gates) }
+        ensures counts { IfOk result (λ made. (made.rounds ≡ self.rounds) × (made.calls ≡ self.calls) × (made.phase ≡ self.phase) × (made.first_fingers ≡ self.first_fingers)) }
+        ensures local { IfOk result (λ made. Local self.rules self.omega made.gates.items) }
+    {
+        let gates = live_gates(alloc, &self.array)?;
+        Ok(Finished {
+            gates,
+            rounds: self.rounds,
+            calls: self.calls,
+            phase: self.phase,
+            first_fingers: self.first_fingers,
+        })
+    }
+
+    /// The gaps of the fingers.
+    pub(crate) fn gaps(&self, alloc: Global) -> Result<Vec<u64>, AllocError>
+        ensures { IfOk result (λ gaps. gaps.items ≡ self.now.state.fingers) }
+    {
+        gaps_of(alloc, &self.array, &self.fingers)
+    }
+}
+
+/// The gates that are left, in order of place.
+fn live_gates(alloc: Global, array: &GateArray) -> Result<GateList, AllocError>
+    ensures gates { IfOk result (λ list. list.items ≡ live array.now) }
+
+    // The list has no room for more.
+    ensures full { IfOk result (λ list. list.room ≡ length list.items) }
+{
+    let mut gates = Vec::with_capacity(alloc, array.live() as usize)?;
+    for place in 0..array.cells() {
+        if let Some(gate) = array.gate_at(place) {
+            gates.push_reserved(gate);
+        }
+    }
+    Ok(GateList::of(gates))
+}

@@ -1,0 +1,91 @@
+ghost use Rattle.std.specs.Prelude.{◌≡◌, ◌≤◌, ℕ, List, All, IfOk, IsTrue, length, map};
+ghost use Rattle.pq_array.specs.Cells.{live, rank};
+ghost use Rattle.pq_finger.specs.Gaps.{ascending};
+ghost use Rattle.pq_match.specs.Row.{IsSound};
+ghost use Rattle.pq_loop.specs.Round.{Round};
+ghost use Rattle.pq_loop.specs.Segments.{stands, state_of, works_of, AreNumbersOf, AreMoved};
+
+use crate::segments::segments_of;
+use pq_array::GateArray;
+use pq_finger::Fingers;
+use pq_oracle::Worked;
+use pq_round::run_round;
+use pq_rules::Rules;
+use std::alloc::{AllocError, Global};
+
+/// The numbers of a round.
+#[derive(Clone, Copy, Debug, PartialEq, Eq)]
+pub struct Step {
+    /// How many fingers were selected. The segment of each was given to the oracle.
+    pub selected: u64,
+
+    /// How many segments were improved.
+    pub improved: u64,
+
+    /// How many gates were removed.
+    pub removed: u64,
+
+    /// By how many eighths of a whole turn the old gates turn more than the new ones, from 0 to 7.
+    pub phase: u8,
+}
+
+/// One round: the gates of the array become those after the round. Answers the fingers after it, and its
+/// numbers. Each finger is at the place of a live gate, or at the end.
+pub fn work_round(
+    alloc: Global,
+    array: &mut GateArray,
+    fingers: &Fingers,
+    rules: &Rules,
+    omega: u32,
+) -> Result<(Fingers, Step), AllocError>
+    requires least { 2 ≤ omega }
+    requires most { omega ≤ 1024 }
+    requires few { length array.old ≤ 1048576 }
+    requires stand { All (λ place. IsTrue (stands array.old place)) fingers.now }
+    ensures round { IfOk result (λ made. Round rules.now omega (state_of array.old fingers.now) (state_of array.new made.0) made.1) }
+    ensures stand { IfOk result (λ made. All (λ place. IsTrue (stands array.new place)) made.0) }
+    ensures size { length array.new ≡ length array.old }
+{
+    let segments = segments_of(alloc, array, fingers, omega)?;
+    let results = run_round(alloc, array, &segments.jobs, rules, omega)?;
+    let cuts = segments.cuts(alloc, array, results.as_slice())?;
+    let settled = fingers.settle(alloc, cuts.as_slice())?;
+    let before = array.live();
+    segments.put(array, results.as_slice());
+    let step = step_of(results.as_slice(), before - array.live());
+    let fingers = moved_on(alloc, array, settled)?;
+    Ok((fingers, step))
+}
+
+/// The numbers of a round with these results, which removed so many gates.
+fn step_of(results: &[Worked], removed: u64) -> Step
+    requires { length results.now ≤ 1048576 }
+    ensures numbers { AreNumbersOf results.now result }
+    ensures removed { result.removed ≡ removed }
+{
+    let mut improved = 0;
+    let mut phases = 0;
+    for worked in results {
+        improved += u64::from(worked.improved());
+        phases += u64::from(worked.phase());
+    }
+    Step {
+        selected: results.len() as u64,
+        improved,
+        removed,
+        phase: (phases % 8) as u8,
+    }
+}
+
+/// The fingers, each moved to the next live place, or to the end.
+fn moved_on(alloc: Global, array: &GateArray, fingers: Fingers) -> Result<Fingers, AllocError>
+    requires { All (λ place. place ≤ length array.now) fingers }
+    ensures { IfOk result (λ moved. AreMoved array.now fingers moved) }
+{
+    let to: Vec<u64> = fingers
+        .places()
+        .iter()
+        .map(|place| array.next_live(*place).unwrap_or(array.cells()))
+        .collect(alloc)?;
+    Ok(fingers.moved(to.as_slice()))
+}

@@ -1,0 +1,204 @@
+ghost use Rattle.std.specs.Prelude.{◌≡◌, ◌+◌, ◌*◌, ◌<◌, ◌≤◌, ℕ, List, All, AllPairs, IfOk, IsTrue, length, map, slice_index, vec_capacity};
+ghost use Rattle.std.specs.List.Sorted.{IsStrictlyIncreasing};
+ghost use Rattle.std.specs.List.{AllZip};
+ghost use Rattle.pq_array.specs.Cells.{live, rank, IsLive};
+ghost use Rattle.pq_finger.specs.Gaps.{GapCut, segment_from, segment_to};
+ghost use Rattle.pq_finger.specs.Ranks.{IsAtPlaces};
+ghost use Rattle.pq_loop.specs.Round.{cut_of};
+ghost use Rattle.pq_loop.specs.Segments.{stands, AreOfRun, AreJobs, AreSegments, AreOfFingers, IsCutHere, works_in};
+
+use pq_array::GateArray;
+use pq_board::Jobs;
+use pq_finger::{Cut, Fingers};
+use pq_io::PlaceList;
+use pq_oracle::Worked;
+use std::alloc::{AllocError, Global};
+
+/// The segments of the selected fingers of a round.
+#[derive(Drop)]
+pub struct Segments {
+    /// How far a segment reaches to both sides of its finger.
+    pub omega: u32,
+
+    /// The indexes of the fingers.
+    pub fingers: PlaceList,
+
+    /// The gaps of the fingers.
+    pub gaps: Vec<u64>,
+
+    /// For each, the places of the gates of its segment.
+    pub jobs: Jobs,
+}
+
+/// The segments of those fingers that a round selects. Each finger is at the place of a live gate, or
+/// at the end.
+pub fn segments_of(
+    alloc: Global,
+    array: &GateArray,
+    fingers: &Fingers,
+    omega: u32,
+) -> Result<Segments, AllocError>
+    requires least { 2 ≤ omega }
+    requires most { omega ≤ 1024 }
+    requires few { length array.now ≤ 1048576 }
+    requires stand { All (λ place. IsTrue (stands array.now place)) fingers.now }
+    ensures omega { IfOk result (λ segments. segments.omega ≡ omega) }
+    ensures segments { IfOk result (λ segments. AreSegments array.now segments) }
+    ensures fingers { IfOk result (λ segments. AreOfFingers array.now fingers.now segments) }
+    ensures live { IfOk result (λ segments. All (λ places. All (IsLive array.now) places) segments.jobs) }
+    ensures short { IfOk result (λ segments. All (λ places. length places ≤ 2 * omega) segments.jobs) }
+{
+    let all = gaps_of(alloc, array, fingers)?;
+    let selected = fingers.select(alloc, all.as_slice(), omega)?;
+    let gaps = picked(alloc, all.as_slice(), selected.as_slice())?;
+    let jobs = jobs_of(alloc, array, gaps.as_slice(), omega)?;
+    Ok(Segments {
+        omega,
+        fingers: selected,
+        gaps,
+        jobs,
+    })
+}
+
+/// The gaps of fingers.
+pub fn gaps_of(alloc: Global, array: &GateArray, fingers: &Fingers) -> Result<Vec<u64>, AllocError>
+    requires { All (λ place. IsTrue (stands array.now place)) fingers.now }
+    ensures gaps { IfOk result (λ gaps. gaps.items ≡ map (rank array.now) fingers.now) }
+    ensures rising { IfOk result (λ gaps. IsStrictlyIncreasing gaps.items) }
+{
+    fingers
+        .places()
+        .iter()
+        .map(|place| array.rank(*place))
+        .collect(alloc)
+}
+
+/// The gaps with these indexes.
+fn picked(alloc: Global, gaps: &[u64], indexes: &[u64]) -> Result<Vec<u64>, AllocError>
+    requires { All (λ index. index < length gaps.now) indexes.now }
+    ensures { IfOk result (λ list. list.items ≡ map (slice_index gaps.now) indexes.now) }
+{
+    indexes.iter().map(|index| gaps[*index as usize]).collect(alloc)
+}
+
+/// For each gap the places of the gates of its segment.
+fn jobs_of(
+    alloc: Global,
+    array: &GateArray,
+    gaps: &[u64],
+    omega: u32,
+) -> Result<Jobs, AllocError>
+    requires least { 2 ≤ omega }
+    requires most { omega ≤ 1024 }
+    requires few { length array.now ≤ 1048576 }
+    requires apart { AllPairs (λ gap later. gap + 2 * omega ≤ later) gaps.now }
+    requires inside { All (λ gap. gap ≤ length (live array.now)) gaps.now }
+    ensures { IfOk result (λ jobs. AreJobs array.now omega gaps.now jobs) }
+{
+    let mut jobs = Jobs::new(alloc);
+    let mut places = Vec::with_capacity(alloc, 2 * omega as usize)?;
+    for gap in gaps {
+        let (from, to) = segment(*gap, array.live(), omega);
+        put_places(&mut places, array, from, to);
+        jobs.add(places.as_slice())?;
+    }
+    Ok(jobs)
+}
+
+/// The gaps from which and to which the segment of the finger at a gap goes.
+fn segment(gap: u64, live: u64, omega: u32) -> (u64, u64)
+    requires gap { gap ≤ live }
+    requires few { live ≤ 1048576 }
+    ensures from { result.0 ≡ segment_from omega gap }
+    ensures to { result.1 ≡ segment_to omega live gap }
+{
+    let reach = u64::from(omega);
+    (gap.saturating_sub(reach), live.min(gap + reach))
+}
+
+/// Makes the list that of the places of the live gates from one gap to another.
+fn put_places(list: &mut Vec<u64>, array: &GateArray, from: u64, to: u64)
+    requires up { from ≤ to }
+    requires inside { to ≤ length (live array.now) }
+    requires room { to ≤ from + vec_capacity list.old }
+    requires few { length array.now ≤ 1048576 }
+    ensures places { AreOfRun array.now from to list.new.items }
+    ensures rising { IsStrictlyIncreasing list.new.items }
+    ensures capacity { vec_capacity list.new ≡ vec_capacity list.old }
+{
+    list.clear();
+    let mut place = place_of(array, from);
+    for _number in from..to {
+        place = live_from(array, place);
+        list.push_reserved(place);
+        place += 1;
+    }
+}
+
+/// The place of a gap: that of the live gate of this number, or the end.
+fn place_of(array: &GateArray, gap: u64) -> u64
+    requires { gap ≤ length (live array.now) }
+    ensures stands { IsTrue (stands array.now result) }
+    ensures rank { rank array.now result ≡ gap }
+    ensures inside { result ≤ length array.now }
+{
+    array.select(gap).unwrap_or(array.cells())
+}
+
+/// The least live place from this one on.
+fn live_from(array: &GateArray, place: u64) -> u64
+    requires { rank array.now place < length (live array.now) }
+    ensures live { IsLive array.now result }
+    ensures rank { rank array.now result ≡ rank array.now place }
+    ensures after { place ≤ result }
+{
+    if array.gate_at(place).is_some() {
+        return place;
+    }
+    array.next_live(place).unwrap()
+}
+
+/// What the round did at a finger of this index and gap.
+fn cut_at(array: &GateArray, finger: u64, gap: u64, omega: u32, improved: bool) -> Cut
+    requires gap { gap ≤ length (live array.now) }
+    requires few { length array.now ≤ 1048576 }
+    ensures { (places : List ℕ) (gaps : GapCut) → IsCutHere (length (live array.now)) omega gap improved gaps →
+        finger < length places → rank array.now (slice_index places finger) ≡ gap →
+        IsAtPlaces (rank array.now) (stands array.now) (length (live array.now)) places gaps result }
+{
+    let live = array.live();
+    let (from, to) = segment(gap, live, omega);
+    Cut {
+        finger,
+        improved,
+        from: place_of(array, from),
+        to: place_of(array, to),
+        at_start: from == 0,
+        at_end: to == live,
+    }
+}
+
+impl Segments {
+    /// What the round did at each segment, told at places. The array is the one before the round.
+    pub fn cuts(
+        &self,
+        alloc: Global,
+        array: &GateArray,
+        results: &[Worked],
+    ) -> Result<Vec<Cut>, AllocError>
+        requires segments { AreSegments array.now self.now }
+        requires fingers { length self.now.fingers.items ≡ length self.now.gaps.items }
+        requires results { length results.now ≡ length self.now.gaps.items }
+        requires few { length array.now ≤ 1048576 }
+        ensures { IfOk result (λ cuts. (places : List ℕ) → AreOfFingers array.now places self.now →
+            AllZip (IsAtPlaces (rank array.now) (stands array.now) (length (live array.now)) places)
+                (map cut_of (works_in array.now self.now results.now)) cuts.items) }
+    {
+        let mut cuts = Vec::with_capacity(alloc, results.len())?;
+        for (number, worked) in results.iter().enumerate() {
+            let finger = self.fingers.as_slice()[number];
+            cuts.push_reserved(cut_at(array, finger, self.gaps[number], self.omega, worked.improved()));
+        }
+        Ok(cuts)
+    }
+}
