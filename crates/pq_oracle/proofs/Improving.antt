@@ -1,11 +1,11 @@
 -- The oracle's answers by one rewriting after another.
-use Rattle.std.proofs.Common.{◌≤◌, ◌↔◌, Option, Some, None, ◌≡◌, ℕ, ◌+◌, ◌%◌, ◌<◌, Bool, true, false, ◌||◌, List, length, refl, sym, ap, ◌∙◌, subst, arith}
+use Rattle.std.proofs.Common.{◌≤◌, ◌↔◌, Some, None, ◌≡◌, ℕ, ◌+◌, ◌%◌, ◌<◌, Bool, true, false, ◌||◌, List, length, refl, ap, ◌∙◌, subst, arith}
 use Rattle.pq_gate.specs.declared.gate.Gate.{Gate}
 use Rattle.pq_gate.specs.Circuit.{IsCircuit}
 use Rattle.pq_gate.specs.Matrix.{Same}
 use Rattle.pq_gate.proofs.SameLaws.{same_reflexive, same_transitive}
 use Rattle.pq_rules.specs.Row.{RowView}
-use Rattle.pq_match.specs.Redex.{RedexView, HasNoRedex, IsRedex}
+use Rattle.pq_match.specs.Redex.{RedexView, HasNoRedex}
 use Rattle.pq_match.specs.First.{IsFirst}
 use Rattle.pq_match.specs.Found.{seen, FindsWithin, IsRedexOf, Rewrites}
 use Rattle.pq_match.specs.declared.redex.Redex.{Redex}

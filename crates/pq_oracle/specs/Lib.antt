@@ -5,6 +5,5 @@ pub use Rattle.pq_match.specs.Redex
 pub use Rattle.pq_match.specs.First
 pub use Rattle.pq_match.specs.Rewrite
 pub use Rattle.pq_list.specs.Roomed
-pub mod Cancelled
 pub mod Ora
 pub mod Outcomes

@@ -3,12 +3,10 @@
 
 mod laws;
 mod oracle;
-mod pairs;
 #[cfg(test)]
 mod tests;
 mod worked;
 
 pub use laws::{oracle_has_one_answer, oracle_keeps_the_matrix};
 pub use oracle::{Outcome, improve};
-pub use pairs::{cancel_pairs, one_cancelled};
 pub use worked::{Worked, WorkedList};
