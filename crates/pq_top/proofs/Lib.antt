@@ -1,3 +1,5 @@
+mod Leading
 mod Noting
 mod Optimising
+mod Shortening
 mod Statuses

@@ -1,40 +1,66 @@
--- A program with optimised gates in place of its own.
-use Rattle.std.proofs.Common.{◌≡◌, ℕ, ◌+◌, ◌≤◌, List, ◌∷◌, ◌++◌, length, length-append, ap, arith, subst, sym}
+-- What rounds leave of the gates of a program, under the built-in rules.
+use Rattle.std.proofs.Common.{◌≡◌, ℕ, ◌+◌, ◌-◌, ◌*◌, ◌<◌, ◌≤◌, Result, Ok, Err, List, [], length, sym, ap, subst, arith}
+use Rattle.std.specs.Prelude.{All, IfOk}
 use Rattle.pq_gate.specs.declared.gate.Gate.{Gate}
 use Rattle.pq_gate.specs.Circuit.{IsCircuit}
 use Rattle.pq_gate.specs.Matrix.{Same}
-use Rattle.pq_oracle.specs.Cancelled.{Arises, Cancelled}
-use Rattle.pq_oracle.proofs.ArisesLaws.{kept_along_Arises}
 use Rattle.pq_text.specs.Program.{ProgramView, places_of}
 use Rattle.pq_text.specs.WellFormed.{WellFormed}
 use Rattle.pq_text.specs.Print.{print}
-use Rattle.pq_oracle.specs.Roomed.{Roomed}
 use Rattle.pq_read.specs.declared.program.Program.{Program}
 use Rattle.pq_read.specs.Environment.{view}
 use Rattle.pq_read.specs.Reads.{Reads}
-use Rattle.pq_top.specs.Optimised.{options, with_gates, Optimises, IsOptimised}
+use Rattle.pq_rules.specs.Row.{RowView, IsSound}
+use Rattle.pq_oracle.specs.Roomed.{Roomed}
+use Rattle.pq_rules.specs.Table.{builtin_rows}
+use Rattle.pq_loop.specs.declared.looping.Finished.{Finished}
+use Rattle.pq_loop.specs.Gaps.{first_fingers}
+use Rattle.pq_loop.specs.Loops.{LoopView}
+use Rattle.pq_loop.specs.Opt.{Total, Opt, Local}
+use Rattle.pq_loop.proofs.Ending.{opt_local, opt_same, opt_bound}
+use Rattle.pq_loop.proofs.Falling.{round_falls}
+use Rattle.pq_top.specs.Optimised.{options, with_gates, total_of, IsOptimised}
+use Rattle.pq_top.proofs.Leading.{IsOnItsWay, led_to_end}
+use Rattle.pq_top.proofs.Shortening.{opt_shorter}
 
-two_less : (n : ℕ) (a b : List Gate) (g : Gate) → length (a ++ g ∷ g ∷ b) ≤ n → length (a ++ b) ≤ n
-two_less n a b g h = omega (arith, h, length-append a (g ∷ g ∷ b), length-append a b)
+-- What holds of all that rounds from the first fingers leave.
+pub record IsLeft (w : ℕ) (gates : List Gate) (total : Total) : Type 0 where
+  pub opt : Opt builtin_rows w gates total
+  pub same : (n : ℕ) → IsCircuit n gates → Same n gates total.gates total.phase
+  pub local : Local builtin_rows w total.gates
+  pub shorter : length total.gates ≤ length gates
+  pub bound : total.calls ≤ length (first_fingers (length gates) w) + 2 * (length gates - length total.gates)
 
--- what is left when pairs are taken out is no longer
-pub cancelled_shorter : (c d : List Gate) → Cancelled c d → length d ≤ length c
-cancelled_shorter c d cancelled =
-    kept_along_Arises (λ e. length e ≤ length c) (λ x y g pair h. two_less (length c) x y g h) (omega arith) cancelled.arises
+left_by_opt : (w : ℕ) (gates : List Gate) (total : Total) → 0 < w → All IsSound builtin_rows → Opt builtin_rows w gates total → IsLeft w gates total
+left_by_opt w gates total some sound opt =
+    let shorter : length total.gates ≤ length gates = opt_shorter builtin_rows w gates total some sound opt in
+    record {
+      opt = opt;
+      same = λ n circuit. opt_same builtin_rows w gates total n some sound opt circuit;
+      local = opt_local builtin_rows w gates total some sound opt;
+      shorter = shorter;
+      bound = omega (arith, shorter, opt_bound round_falls builtin_rows w gates total some sound opt);
+    }
 
--- the same of lists that are equal to the one that was handed on, and to the one that came back
-pub same_as_given : (given old made new : List Gate) (phase : ℕ) → given ≡ old → new ≡ made → ((n : ℕ) → IsCircuit n given → Same n given made phase)
-    → (n : ℕ) → IsCircuit n old → Same n old new phase
-same_as_given given old made new phase is came same =
-    subst (λ gs. (n : ℕ) → IsCircuit n gs → Same n gs new phase) is (subst (λ gs. (n : ℕ) → IsCircuit n given → Same n given gs phase) (sym came) same)
+-- what a loop answers at its end
+pub left_at_end : {E : Type 0} (result : Result Finished E) (rules : List RowView) (w : ℕ) (gates : List Gate) (loop : LoopView) → 2 ≤ w →
+    rules ≡ builtin_rows → All IsSound rules → IsOnItsWay builtin_rows w gates loop → loop.state.fingers ≡ [] →
+    IfOk result (λ finished. finished.gates.items ≡ loop.state.gates) →
+    IfOk result (λ finished. (finished.rounds ≡ loop.rounds) × (finished.calls ≡ loop.calls) × (finished.phase ≡ loop.phase)
+    × (finished.first_fingers ≡ loop.first_fingers)) →
+    IfOk result (λ finished. IsLeft w gates (total_of finished))
+left_at_end (Err error) rules w gates loop least rules_are sound way none gates_are counts = tt
+left_at_end (Ok finished) rules w gates loop least rules_are sound way none gates_are counts =
+    left_by_opt w gates (total_of finished) (omega arith) (subst (All IsSound) rules_are sound)
+    (led_to_end builtin_rows w gates loop finished way none gates_are counts)
 
 -- `given` are the gates as they were handed on
-same_given : (p : ProgramView) (given gates : List Gate) (phase : ℕ) → given ≡ p.gates → WellFormed p
-    → ((n : ℕ) → IsCircuit n given → Same n given gates phase) → Same (places_of p.qregs) given gates phase
+same_given : (p : ProgramView) (given gates : List Gate) (phase : ℕ) → given ≡ p.gates → WellFormed p →
+    ((n : ℕ) → IsCircuit n given → Same n given gates phase) → Same (places_of p.qregs) given gates phase
 same_given p given gates phase is formed same = same (places_of p.qregs) (subst (IsCircuit (places_of p.qregs)) (sym is) formed.circuit)
 
-still_well_formed : (p : ProgramView) (given gates : List Gate) (phase : ℕ) → given ≡ p.gates → WellFormed p → length gates ≤ length given
-    → ((n : ℕ) → IsCircuit n given → Same n given gates phase) → WellFormed (with_gates p gates)
+still_well_formed : (p : ProgramView) (given gates : List Gate) (phase : ℕ) → given ≡ p.gates → WellFormed p → length gates ≤ length given →
+    ((n : ℕ) → IsCircuit n given → Same n given gates phase) → WellFormed (with_gates p gates)
 still_well_formed p given gates phase is formed shorter same = record {
   registers = formed.registers;
   names = formed.names;
@@ -46,24 +72,26 @@ still_well_formed p given gates phase is formed shorter same = record {
   entries = formed.entries;
 }
 
-optimised_of : (text output : List ℕ) (p : ProgramView) (given gates : List Gate) (phase : ℕ) → given ≡ p.gates → WellFormed p → Reads text options p
-    → Optimises given gates phase → ((n : ℕ) → IsCircuit n given → Same n given gates phase) → output ≡ print (with_gates p gates) → IsOptimised text output
-optimised_of text output p given gates phase is formed read optimises same written = record {
-  program = p;
-  read = read;
-  gates = gates;
-  phase = phase;
-  optimises = subst (λ gs. Optimises gs gates phase) is optimises;
-  same = subst (λ gs. Same (places_of p.qregs) gs gates phase) is (same_given p given gates phase is formed same);
-  written = written;
-}
-
-pub formed_with : (p : Program) (given : List Gate) (gates : Roomed Gate) (phase : ℕ) → given ≡ p.gates.items → WellFormed (view p)
-    → length gates.items ≤ length given → ((n : ℕ) → IsCircuit n given → Same n given gates.items phase)
-    → WellFormed (view (record { qregs = p.qregs; cregs = p.cregs; gates = gates; tail = p.tail }))
+-- the program with the gates that are left is well formed
+pub formed_with : (p : Program) (given : List Gate) (gates : Roomed Gate) (phase : ℕ) → given ≡ p.gates.items → WellFormed (view p) →
+    length gates.items ≤ length given → ((n : ℕ) → IsCircuit n given → Same n given gates.items phase) →
+    WellFormed (view (record { qregs = p.qregs; cregs = p.cregs; gates = gates; tail = p.tail }))
 formed_with p given gates phase is formed shorter same = still_well_formed (view p) given gates.items phase is formed shorter same
 
-pub optimised_by : (text output : List ℕ) (p : Program) (given : List Gate) (gates : Roomed Gate) (phase : ℕ) → given ≡ p.gates.items → WellFormed (view p) → Reads text options (view p)
-    → Optimises given gates.items phase → ((n : ℕ) → IsCircuit n given → Same n given gates.items phase)
-    → output ≡ print (view (record { qregs = p.qregs; cregs = p.cregs; gates = gates; tail = p.tail })) → IsOptimised text output
-optimised_by text output p given gates phase is formed read optimises same written = optimised_of text output (view p) given gates.items phase is formed read optimises same written
+-- and its text is the optimised one
+pub optimised_by : (w : ℕ) (text output : List ℕ) (p : Program) (given : List Gate) (finished : Finished) → given ≡ p.gates.items → WellFormed (view p) →
+    Reads text options (view p) → Opt builtin_rows w given (total_of finished) →
+    ((n : ℕ) → IsCircuit n given → Same n given finished.gates.items finished.phase) → Local builtin_rows w finished.gates.items →
+    finished.calls ≤ length (first_fingers (length given) w) + 2 * (length given - length finished.gates.items) →
+    output ≡ print (view (record { qregs = p.qregs; cregs = p.cregs; gates = finished.gates; tail = p.tail })) → IsOptimised w text output
+optimised_by w text output p given finished is formed read opt same local bound written = record {
+  program = view p;
+  read = read;
+  total = total_of finished;
+  opt = subst (λ (gates : List Gate). Opt builtin_rows w gates (total_of finished)) is opt;
+  same = subst (λ (gates : List Gate). Same (places_of (view p).qregs) gates finished.gates.items finished.phase) is
+      (same_given (view p) given finished.gates.items finished.phase is formed same);
+  local = local;
+  bound = subst (λ (gates : List Gate). finished.calls ≤ length (first_fingers (length gates) w) + 2 * (length gates - length finished.gates.items)) is bound;
+  written = written;
+}

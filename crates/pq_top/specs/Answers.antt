@@ -1,5 +1,5 @@
 -- What each status says.
-use Rattle.std.specs.Prelude.{◌≡◌, ℕ, ◌+◌, ◌⊎◌, List, Err}
+use Rattle.std.specs.Prelude.{◌≡◌, ℕ, ◌+◌, ◌⊎◌, List, Ok, Err}
 use Rattle.std.specs.Io.KnownBytes.{Appends}
 use Rattle.pq_io.specs.Whole.{ReadsToEnd, ReadsUpToFault, WritesUpToFault, TakesFirst}
 use Rattle.pq_read.specs.Reads.{Refused}
@@ -11,12 +11,13 @@ use Rattle.pq_top.specs.Request.{Asks, AreGood}
 use Rattle.pq_top.specs.Optimised.{options, IsOptimised, input_limit}
 use Rattle.pq_top.specs.Notes.{usage_line, refusal_line, read_fault_line, write_fault_line}
 
--- The words are good, and the source was read to its end and gave this text, which is accepted; the output
--- is its optimised one.
+-- The words are good and ask for Omega, and the source was read to its end and gave this text, which is accepted;
+-- the output is its optimised one with this Omega.
 pub record Reads (words : List (List ℕ)) (input : Moved) (text output : List ℕ) : Type 0 where
-  pub good : AreGood words
+  pub omega : ℕ
+  pub good : Asks words (Ok omega)
   pub whole : ReadsToEnd input.before input.after input_limit text
-  pub optimised : IsOptimised text output
+  pub optimised : IsOptimised omega text output
 
 -- An accepted text was read to its end, and the sink holds its optimised one more.
 pub record IsDone (words : List (List ℕ)) (input output : Moved) : Type 0 where

@@ -8,7 +8,13 @@ pub use Rattle.pq_text.specs.WellFormed
 pub use Rattle.pq_text.specs.Print
 pub use Rattle.pq_read.specs.Kinds
 pub use Rattle.pq_read.specs.Reads
-pub use Rattle.pq_oracle.specs.Cancelled
+pub use Rattle.pq_rules.specs.Row
+pub use Rattle.pq_rules.specs.Table
+pub use Rattle.pq_loop.specs.Gaps
+pub use Rattle.pq_loop.specs.Redex
+pub use Rattle.pq_loop.specs.Ora
+pub use Rattle.pq_loop.specs.Round
+pub use Rattle.pq_loop.specs.Opt
 pub mod Device
 pub mod Request
 pub mod Optimised

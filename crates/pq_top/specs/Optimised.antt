@@ -1,5 +1,5 @@
 -- Which texts are accepted, and what is written for them.
-use Rattle.std.specs.Prelude.{◌≡◌, ℕ, ◌<◌, ◌≤◌, Bool, false, List, length}
+use Rattle.std.specs.Prelude.{◌≡◌, ℕ, ◌+◌, ◌-◌, ◌*◌, ◌≤◌, Bool, false, List, length}
 use Rattle.pq_gate.specs.declared.gate.Gate.{Gate}
 use Rattle.pq_gate.specs.Matrix.{Same}
 use Rattle.pq_text.specs.Program.{ProgramView, places_of}
@@ -7,8 +7,9 @@ use Rattle.pq_text.specs.Print.{print}
 use Rattle.pq_read.specs.declared.program.Options.{Options}
 use Rattle.pq_read.specs.Reads.{Reads}
 use Rattle.pq_rules.specs.Table.{builtin_rows}
-use Rattle.pq_oracle.specs.Cancelled.{Cancelled}
-use Rattle.pq_oracle.specs.Ora.{Ora}
+use Rattle.pq_loop.specs.Gaps.{first_fingers}
+use Rattle.pq_loop.specs.Opt.{Total, Opt, Local}
+use Rattle.pq_loop.specs.declared.looping.Finished.{Finished}
 
 -- the program with these gates in place of its own
 abbrev pub with_gates : ProgramView → List Gate → ProgramView
@@ -18,31 +19,29 @@ with_gates program gates = record program { gates = gates }
 abbrev pub options : Options
 options = record { drop_barriers = false }
 
--- the most gates that are handed to the oracle as one segment
-abbrev pub oracle_limit : ℕ
-oracle_limit = 2048
+-- what a loop that has no finger any more left, and its numbers
+abbrev pub total_of : Finished → Total
+total_of finished = record {
+  gates = finished.gates.items;
+  rounds = finished.rounds;
+  calls = finished.calls;
+  phase = finished.phase;
+}
 
--- the gates are the oracle's answer under the built-in rules, with this phase
-pub record IsRewritten (old new : List Gate) (phase : ℕ) : Type 0 where
-  pub improved : Bool
-  pub oracle : Ora builtin_rows old (record { gates = new; improved = improved; phase = phase })
-
--- The oracle's answer to the gates where these are few enough for one segment; else what is left when
--- neighbouring equal pairs are taken out, which turns nothing.
-pub record Optimises (old new : List Gate) (phase : ℕ) : Type 0 where
-  pub few : length old ≤ oracle_limit → IsRewritten old new phase
-  pub many : oracle_limit < length old → Cancelled old new × (phase ≡ 0)
-
--- The text stands for a program, and the output is the canonical text of the same program with its gates
--- optimised. The matrix of its own gates is that of the optimised ones turned by the phase.
-pub record IsOptimised (text output : List ℕ) : Type 0 where
+-- The text stands for a program, and the output is the canonical text of the same program with the gates that
+-- rounds leave of its own, under the built-in rules and with the window length Omega. The matrix of its own gates
+-- is that of the gates that are left, turned by the phase of the rounds. No run of at most Omega neighbours among
+-- these has a redex. And the oracle was called at most as often as there were first fingers and twice the removed
+-- gates.
+pub record IsOptimised (omega : ℕ) (text output : List ℕ) : Type 0 where
   pub program : ProgramView
   pub read : Reads text options program
-  pub gates : List Gate
-  pub phase : ℕ
-  pub optimises : Optimises program.gates gates phase
-  pub same : Same (places_of program.qregs) program.gates gates phase
-  pub written : output ≡ print (with_gates program gates)
+  pub total : Total
+  pub opt : Opt builtin_rows omega program.gates total
+  pub same : Same (places_of program.qregs) program.gates total.gates total.phase
+  pub local : Local builtin_rows omega total.gates
+  pub bound : total.calls ≤ length (first_fingers (length program.gates) omega) + 2 * (length program.gates - length total.gates)
+  pub written : output ≡ print (with_gates program total.gates)
 
 -- the most bytes that are accepted
 abbrev pub input_limit : ℕ

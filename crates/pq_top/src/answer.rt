@@ -44,11 +44,12 @@ pub fn work<S: Source, K: Sink>(
     ensures source { LeavesSource result → source.new ≡ source.old }
     ensures sink { LeavesSink result → sink.new ≡ sink.old }
 {
-    if let Err(fault) = request(words) {
-        return Answer::Usage(fault);
-    }
+    let omega = match request(words) {
+        Ok(omega) => omega,
+        Err(fault) => return Answer::Usage(fault),
+    };
     match read_whole(alloc, source, MAX_INPUT) {
-        ReadWhole::Bytes(text) => match optimised(alloc, text) {
+        ReadWhole::Bytes(text) => match optimised(alloc, text, omega) {
             Ok(output) => match write_whole(sink, output.as_slice()) {
                 Ok(()) => Answer::Done,
                 Err(fault) => Answer::WriteFault { sent: fault.sent },

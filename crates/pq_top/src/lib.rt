@@ -29,8 +29,8 @@ pub use words::UsageFault;
 ///
 /// `words` is one word, the window length Omega from 2 to 1,024. `source` gives the text, at most
 /// 67,108,864 bytes, which is read with barriers kept. `sink` takes the canonical text of the same
-/// program with neighbouring equal pairs of H, X and CX taken out. `notes` takes one line where the
-/// status isn't 0.
+/// program with the gates that rounds leave: its matrix is kept up to a phase, and no run of at most Omega
+/// neighbouring gates can be rewritten any more. `notes` takes one line where the status isn't 0.
 ///
 /// The status is 0 where the work was done, 2 where the words have a fault, 3 where the text is
 /// refused, 4 where the source failed, 5 where the sink failed, and 6 where memory ran out.

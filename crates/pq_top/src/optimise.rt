@@ -1,14 +1,15 @@
-ghost use Rattle.std.specs.Prelude.{◌≡◌, ℕ, ◌<◌, ◌≤◌, length, IfOk, IfErr};
+ghost use Rattle.std.specs.Prelude.{◌≡◌, ℕ, ◌+◌, ◌-◌, ◌*◌, ◌≤◌, length, IfOk, IfErr};
 ghost use Rattle.pq_gate.specs.Circuit.{IsCircuit};
 ghost use Rattle.pq_gate.specs.Matrix.{Same};
+ghost use Rattle.pq_loop.specs.Gaps.{first_fingers};
+ghost use Rattle.pq_loop.specs.Opt.{Opt, Local};
 ghost use Rattle.pq_read.specs.Reads.{IsRefusedFor};
 ghost use Rattle.pq_rules.specs.Table.{builtin_rows};
-ghost use Rattle.pq_top.specs.Optimised.{options, input_limit, oracle_limit, IsRewritten, Optimises, IsOptimised};
+ghost use Rattle.pq_top.specs.Optimised.{options, input_limit, total_of, IsOptimised};
 
-use pq_gate::{Gate, GateList};
+use pq_gate::Gate;
 use pq_io::ByteList;
-use pq_match::{MAX_ROOM, Seg};
-use pq_oracle::{cancel_pairs, improve};
+use pq_loop::{Finished, Loop};
 use pq_read::{Options, Program, ReadError, read_text};
 use pq_rules::Rules;
 use pq_write::write_program;
@@ -19,72 +20,46 @@ const OPTIONS: Options = Options {
     drop_barriers: false,
 };
 
-/// Gates, and by how many eighths of a whole turn those that they were made of turn more.
-#[derive(Drop)]
-pub struct Turned {
-    pub gates: GateList,
-    pub phase: u8,
-}
-
-/// The canonical text of the program that a text stands for, with its gates optimised.
+/// The canonical text of the program that a text stands for, with the gates that rounds leave of its own.
+/// Omega is 2 to 1,024.
 #[tactic(auto, using(crate::proofs::Optimising::formed_with, crate::proofs::Optimising::optimised_by))]
-pub fn optimised(alloc: Global, text: ByteList) -> Result<ByteList, ReadError>
-    requires { length text.items ≤ input_limit }
-    ensures found { IfOk result (λ output. IsOptimised text.items output.items) }
+pub fn optimised(alloc: Global, text: ByteList, omega: u32) -> Result<ByteList, ReadError>
+    requires within { length text.items ≤ input_limit }
+    requires least { 2 ≤ omega }
+    requires most { omega ≤ 1024 }
+    ensures found { IfOk result (λ output. IsOptimised omega text.items output.items) }
     ensures refused { IfErr result (IsRefusedFor text.items options) }
 {
     let program = read_text(alloc, text.as_slice(), OPTIONS)?;
     drop(text);
-    let optimised = optimised_gates(alloc, program.gates.as_slice())?;
+    let finished = run_rounds(alloc, program.gates.as_slice(), omega)?;
     let program = Program {
-        gates: optimised.gates,
+        gates: finished.gates,
         ..program
     };
     let output = write_program(alloc, &program)?;
     Ok(output)
 }
 
-// The oracle's answer where the gates are few enough, else what is left when pairs are taken out.
-#[tactic(auto, using(crate::proofs::Optimising::cancelled_shorter))]
-fn optimised_gates(alloc: Global, gates: &[Gate]) -> Result<Turned, AllocError>
-    requires { length gates.now ≤ 1048576 }
-    ensures optimises { IfOk result (λ made. Optimises gates.now made.gates.items made.phase) }
-    ensures same { IfOk result (λ made. (n : ℕ) → IsCircuit n gates.now → Same n gates.now made.gates.items made.phase) }
-    ensures shorter { IfOk result (λ made. length made.gates.items ≤ length gates.now) }
-{
-    if gates.len() <= MAX_ROOM as usize {
-        return rewritten_gates(alloc, gates);
-    }
-    let gates = cancel_pairs(alloc, gates)?;
-    Ok(Turned { gates, phase: 0 })
-}
-
-// The oracle's answer to gates that are few enough for one segment.
-#[tactic(auto, using(crate::proofs::Optimising::same_as_given))]
-fn rewritten_gates(alloc: Global, gates: &[Gate]) -> Result<Turned, AllocError>
-    requires { length gates.now ≤ oracle_limit }
-    ensures rewritten { IfOk result (λ made. IsRewritten gates.now made.gates.items made.phase) }
-    ensures same { IfOk result (λ made. (n : ℕ) → IsCircuit n gates.now → Same n gates.now made.gates.items made.phase) }
-    ensures shorter { IfOk result (λ made. length made.gates.items ≤ length gates.now) }
+// Makes rounds under the built-in rules, from the first fingers until there is no finger.
+fn run_rounds(alloc: Global, gates: &[Gate], omega: u32) -> Result<Finished, AllocError>
+    requires least { 2 ≤ omega }
+    requires most { omega ≤ 1024 }
+    requires few { length gates.now ≤ 1048576 }
+    ensures opt { IfOk result (λ finished. Opt builtin_rows omega gates.now (total_of finished)) }
+    ensures same { IfOk result (λ finished. (n : ℕ) → IsCircuit n gates.now → Same n gates.now finished.gates.items finished.phase) }
+    ensures local { IfOk result (λ finished. Local builtin_rows omega finished.gates.items) }
+    ensures shorter { IfOk result (λ finished. length finished.gates.items ≤ length gates.now) }
+    ensures bound { IfOk result (λ finished. finished.calls
+        ≤ length (first_fingers (length gates.now) omega) + 2 * (length gates.now - length finished.gates.items)) }
+    ensures first_fingers { IfOk result (λ finished. finished.first_fingers ≡ length (first_fingers (length gates.now) omega)) }
 {
     let rules = Rules::builtin(alloc)?;
-    let mut seg = segment_of(alloc, gates)?;
-    let outcome = improve(&rules, &mut seg);
-    let gates = Vec::from_slice(alloc, seg.gates())?;
-    Ok(Turned {
-        gates: GateList::of(gates),
-        phase: outcome.phase,
-    })
-}
-
-// The segment of these gates.
-fn segment_of(alloc: Global, gates: &[Gate]) -> Result<Seg, AllocError>
-    requires { length gates.now ≤ oracle_limit }
-    ensures { IfOk result (λ seg. seg.items ≡ gates.now) }
-{
-    let mut seg = Seg::reserve(alloc, gates.len() as u32)?;
-    for gate in gates {
-        seg.push(*gate);
+    let _count = rules.count();
+    let mut looping = Loop::open(alloc, gates, omega, rules)?;
+    'rounds: while !looping.is_done() {
+        let (next, _step) = looping.round(alloc)?;
+        looping = next;
     }
-    Ok(seg)
+    looping.finish(alloc)
 }

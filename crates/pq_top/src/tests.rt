@@ -105,6 +105,7 @@ fn expect(rt: &impl Abort, outcome: &Outcome, status: u8, output: &str, note: &s
 
 fn accepts(
     rt: &(impl Abort + AllocGlobal + Threads + Sync),
+    omega: &str,
     step: u32,
     text: &str,
     output: &str,
@@ -112,17 +113,17 @@ fn accepts(
     requires { 0 < step }
 {
     let device = Device { step, fails: None };
-    let outcome = run(rt, &["2"], text, device, device)?;
+    let outcome = run(rt, &[omega], text, device, device)?;
     expect(rt, &outcome, 0, output, "");
     Ok(())
 }
 
 #[test]
-fn pairs_are_taken_out_of_a_text_in_steps_of_any_size(rt: HostRuntime) -> Result<(), Fail> {
+fn a_text_comes_and_goes_in_steps_of_any_size(rt: HostRuntime) -> Result<(), Fail> {
     for step in [1u32, 16, 1000] {
-        accepts(&rt, step.max(1), TWO_H, HEADER)?;
-        accepts(&rt, step.max(1), NESTED, HEADER)?;
-        accepts(&rt, step.max(1), MIXED, MIXED_LEFT)?;
+        accepts(&rt, "2", step.max(1), TWO_H, HEADER)?;
+        accepts(&rt, "2", step.max(1), NESTED, HEADER)?;
+        accepts(&rt, "2", step.max(1), MIXED, MIXED_LEFT)?;
     }
     Ok(())
 }
@@ -206,7 +207,7 @@ fn refusals_have_their_number_their_name_and_their_place(rt: HostRuntime) -> Res
 
 #[test]
 fn a_text_written_by_hand_has_its_tail_in_canonical_form(rt: HostRuntime) -> Result<(), Fail> {
-    accepts(&rt, 100, BY_HAND, BY_HAND_OUTPUT)?;
+    accepts(&rt, "2", 100, BY_HAND, BY_HAND_OUTPUT)?;
     Ok(())
 }
 
@@ -242,9 +243,10 @@ fn arguments_that_cannot_be_had_are_noted(rt: HostRuntime) -> Result<(), Fail> {
     Ok(())
 }
 
-// Runs a text of these gates on four wires, and compares the gates that are written.
+// Runs a text of these gates on four wires with this Omega, and compares the gates that are written.
 fn leaves(
     rt: &(impl Abort + AllocGlobal + Threads + Sync),
+    omega: &str,
     gates: &str,
     left: &str,
 ) -> Result<(), AllocError> {
@@ -253,72 +255,103 @@ fn leaves(
     text.push_str(gates)?;
     let mut output = String::from_str(rt.alloc(), front)?;
     output.push_str(left)?;
-    accepts(rt, 100, text.as_str(), output.as_str())
+    accepts(rt, omega, 100, text.as_str(), output.as_str())
 }
 
 #[test]
-fn a_pair_leaves_and_a_phase_merges_across_a_control_and_not_across_a_target(
-    rt: HostRuntime,
-) -> Result<(), Fail> {
-    leaves(&rt, "h q[0];\nh q[0];\n", "")?;
-    leaves(
-        &rt,
-        "t q[0];\ncx q[0],q[1];\nt q[0];\n",
-        "cx q[0],q[1];\ns q[0];\n",
-    )?;
-    leaves(
-        &rt,
-        "t q[1];\ncx q[0],q[1];\nt q[1];\n",
-        "t q[1];\ncx q[0],q[1];\nt q[1];\n",
-    )?;
+fn a_segment_that_holds_all_gates_is_rewritten_by_the_rules(rt: HostRuntime) -> Result<(), Fail> {
+    for (omega, gates, left) in [
+        ("64", "", ""),
+        ("2", "h q[0];\nh q[0];\n", ""),
+        (
+            "4",
+            "t q[0];\ncx q[0],q[1];\nt q[0];\n",
+            "cx q[0],q[1];\ns q[0];\n",
+        ),
+        (
+            "4",
+            "t q[1];\ncx q[0],q[1];\nt q[1];\n",
+            "t q[1];\ncx q[0],q[1];\nt q[1];\n",
+        ),
+        ("4", "x q[0];\nt q[0];\nx q[0];\n", "tdg q[0];\n"),
+        (
+            "4",
+            "h q[0];\ns q[0];\nh q[0];\ns q[0];\n",
+            "sdg q[0];\nh q[0];\n",
+        ),
+        ("4", "t q[0];\ns q[0];\n", "t q[0];\ns q[0];\n"),
+        (
+            "4",
+            "cx q[0],q[1];\ncx q[1],q[2];\ncx q[0],q[1];\n",
+            "cx q[1],q[2];\ncx q[0],q[2];\n",
+        ),
+        (
+            "8",
+            "h q[0];\nh q[1];\ncx q[0],q[1];\nh q[1];\nh q[0];\n",
+            "cx q[1],q[0];\n",
+        ),
+        (
+            "16",
+            "ccx q[0],q[1],q[2];\n",
+            "h q[2];\ncx q[1],q[2];\ntdg q[2];\ncx q[0],q[2];\nt q[2];\n\
+            cx q[1],q[2];\ntdg q[2];\ncx q[0],q[2];\nt q[1];\nt q[2];\nh q[2];\ncx q[0],q[1];\n\
+            t q[0];\ntdg q[1];\ncx q[0],q[1];\n",
+        ),
+        (
+            "4",
+            "swap q[0],q[1];\n",
+            "cx q[0],q[1];\ncx q[1],q[0];\ncx q[0],q[1];\n",
+        ),
+    ] {
+        leaves(&rt, omega, gates, left)?;
+    }
     Ok(())
 }
 
 #[test]
-fn a_phase_is_conjugated_and_three_eighths_have_no_gate(rt: HostRuntime) -> Result<(), Fail> {
-    leaves(&rt, "x q[0];\nt q[0];\nx q[0];\n", "tdg q[0];\n")?;
-    leaves(
-        &rt,
-        "h q[0];\ns q[0];\nh q[0];\ns q[0];\n",
-        "sdg q[0];\nh q[0];\n",
-    )?;
-    leaves(&rt, "t q[0];\ns q[0];\n", "t q[0];\ns q[0];\n")?;
-    leaves(
-        &rt,
-        "h q[0];\nt q[1];\ns q[1];\nh q[0];\n",
-        "t q[1];\ns q[1];\n",
-    )?;
+fn what_a_finger_sees_depends_on_omega(rt: HostRuntime) -> Result<(), Fail> {
+    for (omega, gates, left) in [
+        (
+            "2",
+            "h q[0];\nt q[1];\ns q[1];\nh q[0];\n",
+            "t q[1];\ns q[1];\n",
+        ),
+        (
+            "2",
+            "h q[0];\nt q[1];\ns q[1];\nt q[2];\ns q[2];\nt q[3];\ns q[3];\nh q[0];\n",
+            "h q[0];\nt q[1];\ns q[1];\nt q[2];\ns q[2];\nt q[3];\ns q[3];\nh q[0];\n",
+        ),
+        (
+            "4",
+            "h q[0];\nt q[1];\ns q[1];\nt q[2];\ns q[2];\nt q[3];\ns q[3];\nh q[0];\n",
+            "t q[1];\ns q[1];\nt q[2];\ns q[2];\nt q[3];\ns q[3];\n",
+        ),
+    ] {
+        leaves(&rt, omega, gates, left)?;
+    }
     Ok(())
 }
 
 #[test]
-fn three_cx_become_two_and_hadamards_turn_a_cx_round(rt: HostRuntime) -> Result<(), Fail> {
-    leaves(
-        &rt,
-        "cx q[0],q[1];\ncx q[1],q[2];\ncx q[0],q[1];\n",
-        "cx q[1],q[2];\ncx q[0],q[2];\n",
-    )?;
-    leaves(
-        &rt,
-        "h q[0];\nh q[1];\ncx q[0],q[1];\nh q[1];\nh q[0];\n",
-        "cx q[1],q[0];\n",
-    )?;
-    Ok(())
-}
-
-#[test]
-fn a_toffoli_and_a_swap_stay_as_they_are_expanded(rt: HostRuntime) -> Result<(), Fail> {
-    leaves(
-        &rt,
-        "ccx q[0],q[1],q[2];\n",
-        "h q[2];\ncx q[1],q[2];\ntdg q[2];\ncx q[0],q[2];\nt q[2];\n\
-        cx q[1],q[2];\ntdg q[2];\ncx q[0],q[2];\nt q[1];\nt q[2];\nh q[2];\ncx q[0],q[1];\n\
-        t q[0];\ntdg q[1];\ncx q[0],q[1];\n",
-    )?;
-    leaves(
-        &rt,
-        "swap q[0],q[1];\n",
-        "cx q[0],q[1];\ncx q[1],q[0];\ncx q[0],q[1];\n",
-    )?;
+fn rounds_go_on_where_gates_went_away(rt: HostRuntime) -> Result<(), Fail> {
+    for (omega, gates, left) in [
+        (
+            "2",
+            "h q[0];\nh q[0];\nh q[0];\nh q[0];\nh q[0];\nh q[0];\n",
+            "",
+        ),
+        (
+            "2",
+            "h q[0];\nh q[0];\nt q[1];\ns q[1];\nt q[2];\ns q[2];\nh q[3];\nh q[3];\n",
+            "t q[1];\ns q[1];\nt q[2];\ns q[2];\n",
+        ),
+        (
+            "2",
+            "s q[0];\nh q[0];\nz q[0];\nz q[0];\ns q[0];\nh q[0];\nx q[0];\nz q[0];\nx q[0];\nz q[0];\n",
+            "h q[0];\nsdg q[0];\n",
+        ),
+    ] {
+        leaves(&rt, omega, gates, left)?;
+    }
     Ok(())
 }
