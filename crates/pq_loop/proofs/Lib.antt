@@ -2,7 +2,11 @@ pub mod OneRound
 pub mod OneOpt
 pub mod Falling
 pub mod Joining
+pub mod Standing
+pub mod Gathered
+pub mod Assembling
 pub mod Keeping
 pub mod Redexes
 pub mod Covering
 pub mod Ending
+pub mod Kept

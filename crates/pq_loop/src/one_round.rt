@@ -46,13 +46,16 @@ pub fn work_round(
     ensures stand { IfOk result (λ made. All (λ place. IsTrue (stands array.new place)) made.0) }
     ensures size { length array.new ≡ length array.old }
 {
+    let _places = fingers.places();
+    let _rows = rules.count();
     let segments = segments_of(alloc, array, fingers, omega)?;
-    let results = run_round(alloc, array, &segments.jobs, rules, omega)?;
-    let cuts = segments.cuts(alloc, array, results.as_slice())?;
+    let worked = run_round(alloc, array, &segments.jobs, rules, omega)?;
+    let results = worked.as_slice();
+    let cuts = segments.cuts(alloc, array, results)?;
     let settled = fingers.settle(alloc, cuts.as_slice())?;
     let before = array.live();
-    segments.put(array, results.as_slice());
-    let step = step_of(results.as_slice(), before - array.live());
+    segments.put(array, results);
+    let step = step_of(results, before - array.live());
     let fingers = moved_on(alloc, array, settled)?;
     Ok((fingers, step))
 }
