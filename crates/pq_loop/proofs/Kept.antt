@@ -9,6 +9,8 @@ use Rattle.std.proofs.lemmas.List.Elements.{All-head, All-tail}
 use Rattle.std.proofs.lemmas.List.FromFn.{length-map-range_with_len}
 use Rattle.std.specs.Int.{div_ceil}
 use Rattle.pq_gate.specs.declared.gate.Gate.{Gate}
+use Rattle.pq_gate.specs.Circuit.{IsCircuit}
+use Rattle.pq_gate.specs.Matrix.{Same}
 use Rattle.pq_rules.specs.Row.{RowView, IsSound}
 use Rattle.pq_array.specs.Cells.{live, rank, IsLive}
 use Rattle.pq_array.proofs.Ranks.{live-map_some}
@@ -18,8 +20,9 @@ use Rattle.pq_loop.specs.declared.one_round.Step.{Step}
 use Rattle.pq_loop.specs.Round.{State, IsState, Round}
 use Rattle.pq_loop.specs.Opt.{first_state, Local, Cover}
 use Rattle.pq_loop.specs.Segments.{stands, state_of}
-use Rattle.pq_loop.specs.Loops.{IsKept}
+use Rattle.pq_loop.specs.Loops.{LoopView, IsCovered, IsKept}
 use Rattle.pq_loop.proofs.Covering.{state_after, cover_after}
+use Rattle.pq_loop.proofs.Joining.{round_same}
 use Rattle.pq_loop.proofs.Falling.{round_falls, round_selects}
 use Rattle.pq_loop.proofs.OneOpt.{first_is_state}
 use Rattle.pq_loop.proofs.Standing.{live_stands, end_stands}
@@ -99,9 +102,9 @@ opened_state {cells} {fingers} gates w some cells_are fingers_are =
     λ i. record { gates = lives i; fingers = ranks i }
 
 -- the opened loop keeps it
-pub kept_first : {cells : List (Option Gate)} {fingers : List ℕ} {rules : List RowView} {w : ℕ} (gates : List Gate) → 2 ≤ w → w ≤ 1024 → All IsSound rules →
-    length gates ≤ 1048576 → cells ≡ map (λ gate. Some gate) gates → fingers ≡ first_fingers (length gates) w → IsKept cells fingers rules w 0 0 0
-kept_first {cells} {fingers} {rules} {w} gates least most sound few cells_are fingers_are =
+pub kept_first : {cells : List (Option Gate)} {fingers : List ℕ} {rules : List RowView} {w : ℕ} (gates : List Gate) → cells ≡ map (λ gate. Some gate) gates →
+    fingers ≡ first_fingers (length gates) w → All IsSound rules → length gates ≤ 1048576 → 2 ≤ w → w ≤ 1024 → IsKept cells fingers rules w 0 0 0
+kept_first {cells} {fingers} {rules} {w} gates cells_are fingers_are sound few least most =
     let some : 0 < w = omega arith in
     let state : state_of cells fingers ≡ first_state w gates = opened_state gates w some cells_are fingers_are in
     let long : length cells ≡ length gates = ap (λ (c : List (Option Gate)). length c) cells_are ∙ length-map gates (λ gate. Some gate) in
@@ -133,3 +136,56 @@ pub local_at_end : {cells : List (Option Gate)} {fingers : List ℕ} {rules : Li
 local_at_end {cells} {fingers} {rules} {w} kept none a b up in_list most redex is =
     ∥∥₁_elim kept.cover (λ x y. absurd x)
     (λ cover. local_without_fingers rules w (state_of cells fingers) (ap (λ (l : List ℕ). length l) none) cover a b up in_list most redex is)
+
+-- what contracts see of a loop with these fields
+abbrev pub view_of : List (Option Gate) → List ℕ → List RowView → ℕ → ℕ → ℕ → ℕ → ℕ → LoopView
+view_of cells fingers rules w rounds calls phase first = record {
+  state = state_of cells fingers;
+  omega = w;
+  rules = rules;
+  rounds = rounds;
+  calls = calls;
+  phase = phase;
+  first_fingers = first;
+}
+
+-- where there is no finger, no run of the gates has a redex
+pub local_of_view : {cells : List (Option Gate)} {fingers : List ℕ} {rules : List RowView} {w rounds calls phase first : ℕ} {loop : LoopView} {gates : List Gate} →
+    IsKept cells fingers rules w rounds calls phase → view_of cells fingers rules w rounds calls phase first ≡ loop → loop.state.fingers ≡ [] →
+    gates ≡ live cells → Local loop.rules loop.omega gates
+local_of_view {cells} {fingers} {rules} {w} {rounds} {calls} {phase} {first} {loop} {gates} kept seen none gates_are =
+    let P : LoopView → Type 0 = λ v. v.state.fingers ≡ [] → Local v.rules v.omega v.state.gates in
+    let here : Local loop.rules loop.omega loop.state.gates = subst P seen (λ empty. local_at_end kept empty) none in
+    let same : loop.state.gates ≡ gates = sym (gates_are ∙ ap (λ (v : LoopView). v.state.gates) seen) in
+    subst (Local loop.rules loop.omega) same here
+
+-- What contracts see of a loop before a round, and its state after: nothing was overlooked, and nothing is.
+pub record IsAfter (rules : List RowView) (w : ℕ) (before : LoopView) (after : State) (step : Step) : Type 0 where
+  pub same : (n : ℕ) → IsCircuit n before.state.gates → Same n before.state.gates after.gates step.phase
+  pub covered : IsCovered before × ∥ Cover rules w after ∥₁
+  pub bound : length after.fingers + 2 * length after.gates + step.selected ≤ length before.state.fingers + 2 * length before.state.gates
+  pub some : 0 < step.selected
+
+-- what a round makes of what contracts see
+pub after_of_view : {old : List (Option Gate)} {fingers : List ℕ} {rules : List RowView} {w rounds calls phase first : ℕ} {loop : LoopView} {after : State} {step : Step} →
+    IsKept old fingers rules w rounds calls phase → view_of old fingers rules w rounds calls phase first ≡ loop → 0 < length loop.state.fingers →
+    Round rules w (state_of old fingers) after step → IsAfter rules w loop after step
+after_of_view {old} {fingers} {rules} {w} {rounds} {calls} {phase} {first} {loop} {after} {step} kept seen some is =
+    let before : State = state_of old fingers in
+    let least : 0 < w = omega (arith, kept.least) in
+    let P : LoopView → Type 0 = λ v. 0 < length v.state.fingers → IsAfter rules w v after step in
+    subst P seen
+    (λ has. record {
+      same = λ n circuit. round_same rules w before after step n least kept.sound kept.is_state is circuit;
+      covered = (kept.cover, ∥∥₁_map kept.cover (cover_after rules w before after step least kept.sound kept.is_state is));
+      bound = round_falls rules w before after step least kept.sound kept.is_state is;
+      some = round_selects rules w before after step is has;
+    }) some
+
+-- what a round makes of what a loop keeps
+pub kept_of_view : {old new : List (Option Gate)} {fingers moved : List ℕ} {rules : List RowView} {w rounds calls phase first : ℕ} {loop : LoopView} {step : Step} →
+    IsKept old fingers rules w rounds calls phase → view_of old fingers rules w rounds calls phase first ≡ loop → 0 < length loop.state.fingers →
+    Round rules w (state_of old fingers) (state_of new moved) step → All (λ place. IsTrue (stands new place)) moved → length new ≡ length old →
+    IsKept new moved rules w (rounds + 1) (calls + step.selected) ((phase + step.phase) % 8)
+kept_of_view kept seen some is stand size =
+    kept_after kept (omega (arith, ap (λ (v : LoopView). length v.state.fingers) seen, some)) is stand size

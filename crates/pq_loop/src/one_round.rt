@@ -46,6 +46,7 @@ pub fn work_round(
     ensures stand { IfOk result (λ made. All (λ place. IsTrue (stands array.new place)) made.0) }
     ensures size { length array.new ≡ length array.old }
 {
+    // the fingers are in order, and the rows are sound
     let _places = fingers.places();
     let _rows = rules.count();
     let segments = segments_of(alloc, array, fingers, omega)?;
