@@ -1,5 +1,5 @@
 -- From what is done at places to a round over gates and gaps.
-use Rattle.std.proofs.Common.{◌≡◌, ℕ, suc, ◌+◌, ◌-◌, ◌*◌, ◌%◌, ◌<◌, ◌≤◌, Bool, true, Option, List, [], ◌∷◌, length, map, get_or, refl, ap, sym, subst, ◌∙◌, arith, inl, inr, ◌⊎◌}
+use Rattle.std.proofs.Common.{◌≡◌, ℕ, suc, ◌+◌, ◌-◌, ◌*◌, ◌<◌, ◌≤◌, Bool, Option, List, [], ◌∷◌, length, map, get_or, refl, ap, sym, subst, ◌∙◌, arith, inl, inr, ◌⊎◌}
 use Rattle.std.specs.Prelude.{All, AllPairs, Any, Contains, IsTrue}
 use Rattle.std.specs.List.{AllZip}
 use Rattle.std.specs.List.Sorted.{IsStrictlyIncreasing}
@@ -10,7 +10,7 @@ use Rattle.pq_rules.specs.Row.{RowView}
 use Rattle.pq_array.specs.Cells.{live, rank}
 use Rattle.pq_array.proofs.Ranks.{rank-le-live, length-live-le}
 use Rattle.pq_finger.specs.declared.cut.Cut.{Cut}
-use Rattle.pq_finger.specs.Gaps.{GapCut, segment_from, segment_to, selected, ascending, new_fingers}
+use Rattle.pq_finger.specs.Gaps.{GapCut, segment_from, segment_to, selected, ascending}
 use Rattle.pq_finger.specs.Settled.{settled, AreInOrder, MakesPlace}
 use Rattle.pq_finger.specs.Ranks.{IsAtPlaces, AreCutsOf, LosesGates}
 use Rattle.pq_finger.proofs.Ascending.{member-ascending}
@@ -22,7 +22,7 @@ use Rattle.pq_oracle.specs.Outcomes.{WorkedView}
 use Rattle.pq_round.specs.Results.{AreResults}
 use Rattle.pq_loop.specs.declared.one_round.Step.{Step}
 use Rattle.pq_loop.specs.declared.segments.Segments.{Segments}
-use Rattle.pq_loop.specs.Round.{Round, Work, IsWorkOf, cut_of, joined, improved_of, phases_of}
+use Rattle.pq_loop.specs.Round.{Round, Work, IsWorkOf, cut_of, joined}
 use Rattle.pq_loop.specs.Segments.{stands, state_of, AreSegments, AreOfFingers, works_in, AreNumbersOf, AreMoved}
 use Rattle.pq_loop.proofs.Standing.{standing_rises, standing_inside}
 use Rattle.pq_loop.proofs.Gathered.{works_fit, works_gaps, works_count, results_count}

@@ -1,8 +1,5 @@
-use Rattle.std.proofs.Common.{◌≡◌, ◌<◌, ◌-◌, length, arith, ap, sym, subst, ◌∙◌}
-use Rattle.pq_array.specs.Cells.{live}
-use Rattle.pq_loop.specs.Round.{Round}
-use Rattle.pq_loop.specs.Segments.{state_of}
-use Rattle.pq_loop.proofs.Assembling.{IsFound, IsDone, found_of, cuts_in_order, settled_inside, round_is, moved_stand, results_few}
+use Rattle.std.proofs.Common.{arith}
+use Rattle.pq_loop.proofs.Assembling.{found_of, cuts_in_order, settled_inside, round_is, moved_stand, results_few}
 use Rattle.pq_loop.proofs.one_round.work_round.Goals as goal
 
 pub settle-requires : goal.settle-requires
