@@ -2,6 +2,7 @@ pub mod OneRound
 pub mod OneOpt
 pub mod Falling
 pub mod Joining
+pub mod Gathered
 pub mod Keeping
 pub mod Redexes
 pub mod Covering

@@ -22,7 +22,7 @@ impl Segments {
         ensures gates { live array.new ≡ joined (live array.old) (works_in array.old self.now results.now) }
         ensures loses { (places : List ℕ) (cuts : List Cut) →
             AllZip (IsAtPlaces (rank array.old) (stands array.old) (length (live array.old)) places)
-                (map cut_of (works_in array.old self.now results.now)) cuts →
+            (map cut_of (works_in array.old self.now results.now)) cuts →
             LosesGates (rank array.old) (rank array.new) (map cut_of (works_in array.old self.now results.now)) cuts }
     {
         for ticket in (0..results.len()).rev() {
@@ -32,8 +32,7 @@ impl Segments {
 }
 
 /// Puts the output of an improved segment at its places.
-fn put_result(array: &mut GateArray, places: &[u64], worked: &Worked)
-{
+fn put_result(array: &mut GateArray, places: &[u64], worked: &Worked) {
     if worked.improved() {
         array.replace(places, worked.output());
     }
