@@ -3,7 +3,11 @@ pub mod OneOpt
 pub mod Falling
 pub mod Joining
 pub mod Gathered
+pub mod Ranking
 pub mod Keeping
 pub mod Redexes
+pub mod Placing
+pub mod Lessening
+pub mod Turning
 pub mod Covering
 pub mod Ending
