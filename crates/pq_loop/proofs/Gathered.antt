@@ -1,5 +1,5 @@
 -- The gates at the places of a run, and the works of a round's segments.
-use Rattle.std.proofs.Common.{◌≡◌, ℕ, zero, suc, ◌+◌, ◌-◌, ◌*◌, ◌<◌, ◌≤◌, Option, Some, None, List, [], ◌∷◌, length, map, take, drop, get_or, slice_get, refl, ap, sym, subst, ◌∙◌, arith}
+use Rattle.std.proofs.Common.{◌≡◌, ℕ, suc, ◌-◌, ◌<◌, ◌≤◌, Option, Some, None, List, [], ◌∷◌, length, map, take, drop, get_or, slice_get, refl, ap, sym, subst, ◌∙◌, arith}
 use Rattle.std.specs.Prelude.{All, AllPairs}
 use Rattle.std.proofs.Math.Seq.{drop-cons}
 use Rattle.std.proofs.lemmas.Option.{slice_get-get_or, slice_get_within}
@@ -12,10 +12,10 @@ use Rattle.pq_array.proofs.Replacing.{RunAt}
 use Rattle.pq_finger.specs.Gaps.{segment_from, segment_to}
 use Rattle.pq_oracle.specs.Ora.{Ora}
 use Rattle.pq_oracle.specs.Outcomes.{WorkedView}
-use Rattle.pq_round.specs.Results.{gates_at, IsResultOf, AreResults}
+use Rattle.pq_round.specs.Results.{gates_at, AreResults}
 use Rattle.pq_loop.specs.Round.{Work, IsWorkOf, run}
 use Rattle.pq_loop.specs.declared.segments.Segments.{Segments}
-use Rattle.pq_loop.specs.Segments.{AreOfRun, AreJobs, AreSegments, works_of, works_in}
+use Rattle.pq_loop.specs.Segments.{AreOfRun, AreSegments, works_of, works_in}
 use Rattle.pq_loop.proofs.Joining.{Fit, fit_from}
 
 -- the places of a run are those of the live gates from its first number on

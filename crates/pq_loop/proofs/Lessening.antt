@@ -1,5 +1,5 @@
 -- What a round whose answers are put in their places does to the ranks of places.
-use Rattle.std.proofs.Common.{◌≡◌, ℕ, zero, suc, ◌+◌, ◌-◌, ◌<◌, ◌≤◌, true, false, Bool, inl, inr, ◌⊎◌, Option, List, [], ◌∷◌, length, map, get_or, refl, ap, sym, subst, ◌∙◌, arith}
+use Rattle.std.proofs.Common.{◌≡◌, ℕ, zero, suc, ◌+◌, ◌-◌, ◌<◌, ◌≤◌, true, false, inl, inr, ◌⊎◌, Option, List, [], ◌∷◌, length, map, get_or, refl, ap, sym, subst, ◌∙◌, arith}
 use Rattle.std.specs.Prelude.{All}
 use Rattle.std.specs.List.{AllZip}
 use Rattle.std.proofs.lemmas.Bool.{cases_Bool}
@@ -39,7 +39,7 @@ fit_low rules w gates least (work ∷ works) fit (suc k) d lt =
     let rest = fit_low rules w gates work.to works fit.3 k d (omega arith) in
     (omega (arith, fit.0, up.0, up.1, rest.0), rest.1)
 
--- one work between whose start and end nothing is lost but its own
+-- a work that isn't between two gaps loses nothing between them
 one_alike : (rules : List RowView) (w : ℕ) (gates : List Gate) (least : ℕ) (work : Work) (works : List Work) (a b : ℕ) →
     Fit rules w gates least (work ∷ works) → a ≤ b → IsApart a b work →
     lost_before (map cut_of works) a ≡ lost_before (map cut_of works) b →
@@ -130,10 +130,6 @@ edges rules w gates least (work ∷ works) fit (suc k) d lt = by (get_or works k
 
 module _ (rules : List RowView) (w : ℕ) (old new : List (Option Gate)) (all : List Work) (places : List ℕ)
     (fit : Fit rules w (live old) 0 all) (put : IsPut old new all) where
-  -- the cut has the gaps of its work
-  AreAt : List Work → List Cut → Type 0
-  AreAt works cuts = AllZip (IsAtPlaces (rank old) (stands old) (length (live old)) places) (map cut_of works) cuts
-
   -- no improved segment between two places
   apart_from : (works : List Work) (cuts : List Cut) (place later : ℕ) → AllZip (IsAtPlaces (rank old) (stands old) (length (live old)) places) (map cut_of works) cuts →
       All (λ (cut : Cut). cut.improved ≡ true → (cut.to ≤ place) ⊎ (later ≤ cut.from)) cuts → All (IsApart (rank old place) (rank old later)) works
@@ -151,7 +147,7 @@ module _ (rules : List RowView) (w : ℕ) (old new : List (Option Gate)) (all : 
       by (inl le) = inl (omega (arith, at.0.to, rank-le old cut.to place le))
       by (inr le) = inr (omega (arith, at.0.from, rank-le old later cut.from le))
 
-  -- a gap between which and another there is none is inside none
+  -- where there is none between two gaps, neither gap stands inside one
   apart_left : (a b : ℕ) → a ≤ b → All (IsApart a b) all → All (IsApart a a) all
   apart_left a b le apart = λ k d lt better. by (get_or all k d) (apart k d lt better)
     where
@@ -189,6 +185,7 @@ module _ (rules : List RowView) (w : ℕ) (old new : List (Option Gate)) (all : 
       let high_is : lost_before (map cut_of all) (rank old to) ≡ lost_before (map cut_of all) work.to = ap (lost_before (map cut_of all)) to_is in
       omega (arith, low, high, low_is, high_is, edge.loses better)
 
+  -- around all segments, one after another
   all_inside : (works : List Work) (cuts : List Cut) → ((k : ℕ) (d : Work) → k < length works → Edges all (get_or works k d)) →
       AllZip (IsAtPlaces (rank old) (stands old) (length (live old)) places) (map cut_of works) cuts →
       AllZip (λ (gap : GapCut) (cut : Cut). cut.improved ≡ true → rank new cut.to + gap.lost + rank old cut.from ≡ rank new cut.from + rank old cut.to) (map cut_of works) cuts
@@ -208,4 +205,3 @@ module _ (rules : List RowView) (w : ℕ) (old new : List (Option Gate)) (all : 
     outside = λ place later le apart. outside place later le (apart_from all cuts place later at apart);
     inside = all_inside all cuts (edges rules w (live old) 0 all fit) at;
   }
-

@@ -43,6 +43,7 @@ put_none cells = record { size = refl; gates = refl; ranks = λ p apart. omega a
 
 module _ (rules : List RowView) (w : ℕ) (old now : List (Option Gate)) (least : ℕ) (work : Work) (works : List Work)
     (fit : Fit rules w (live old) least (work ∷ works)) (put : IsPut old now works) where
+  -- the finger stands in its segment
   up : (work.from ≤ work.finger) × (work.finger ≤ work.to) × (work.to ≤ length (live old))
   up = work_up rules w (live old) work fit.2 fit.1
 
@@ -58,7 +59,7 @@ module _ (rules : List RowView) (w : ℕ) (old now : List (Option Gate)) (least 
     );
   }
 
-  -- what is left of the segment's end has its rank
+  -- a place up to the segment's end has its old rank
   rank_still : (p : ℕ) → rank old p ≤ work.to → rank now p ≡ rank old p
   rank_still p le =
       omega (
@@ -85,7 +86,7 @@ module _ (rules : List RowView) (w : ℕ) (old now : List (Option Gate)) (least 
         omega (arith, at, are.count, rank_still (get_or places i 0) (omega (arith, at, are.count))),
       )
 
-  -- a better answer had gates
+  -- a segment with a better answer has gates
   pub run_some : (places : List ℕ) → AreOfRun old work.from work.to places → work.answer.improved ≡ true → 0 < length places
   run_some places are better = by (length places) refl
     where

@@ -1,5 +1,5 @@
 -- One answer of a round after another, the last one first.
-use Rattle.std.proofs.Common.{◌≡◌, ℕ, zero, suc, ◌+◌, ◌-◌, ◌<◌, ◌≤◌, true, false, inl, inr, ◌⊎◌, Option, List, [], ◌∷◌, length, map, drop, get_or, refl, ap, sym, subst, ◌∙◌, arith}
+use Rattle.std.proofs.Common.{◌≡◌, ℕ, zero, suc, ◌+◌, ◌-◌, ◌<◌, ◌≤◌, true, false, inl, inr, ◌⊎◌, Option, List, [], ◌∷◌, length, map, drop, get_or, ap, sym, subst, ◌∙◌, arith}
 use Rattle.std.specs.Prelude.{All}
 use Rattle.std.specs.List.{AllZip}
 use Rattle.std.proofs.lemmas.Bool.{cases_Bool}
@@ -12,7 +12,7 @@ use Rattle.pq_finger.specs.declared.cut.Cut.{Cut}
 use Rattle.pq_finger.specs.Ranks.{IsAtPlaces, LosesGates}
 use Rattle.pq_oracle.specs.Outcomes.{WorkedView}
 use Rattle.pq_round.specs.Results.{AreResults}
-use Rattle.pq_loop.specs.Round.{Work, cut_of, joined}
+use Rattle.pq_loop.specs.Round.{Work, cut_of}
 use Rattle.pq_loop.specs.declared.segments.Segments.{Segments}
 use Rattle.pq_loop.specs.Segments.{stands, work_at, works_of, works_in, AreOfRun, AreSegments}
 use Rattle.pq_loop.proofs.Joining.{Fit, work_up}
