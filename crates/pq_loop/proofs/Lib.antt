@@ -6,3 +6,6 @@ pub mod Keeping
 pub mod Redexes
 pub mod Covering
 pub mod Ending
+pub mod Standing
+pub mod Nexts
+pub mod Running
