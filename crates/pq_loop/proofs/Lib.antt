@@ -8,4 +8,6 @@ pub mod Covering
 pub mod Ending
 pub mod Standing
 pub mod Nexts
+pub mod Growing
 pub mod Running
+pub mod Making

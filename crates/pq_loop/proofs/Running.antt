@@ -1,13 +1,15 @@
 -- Walking over the live places of a run, cell by cell.
-use Rattle.std.proofs.Common.{◌≡◌, ℕ, ◌+◌, ◌-◌, ◌<◌, ◌≤◌, ◌⊎◌, inl, inr, Option, List, [], ◌∷◌, ◌++◌, length, get_or, refl, sym, ap, subst, ◌∙◌, arith}
+use Rattle.std.proofs.Common.{◌≡◌, ℕ, suc, ◌+◌, ◌-◌, ◌<◌, ◌≤◌, ◌⊎◌, inl, inr, Option, List, [], ◌∷◌, ◌++◌, length, get_or, refl, sym, ap, subst, ◌∙◌, arith}
 use Rattle.std.specs.Prelude.{All}
 use Rattle.std.specs.List.Sorted.{IsStrictlyIncreasing}
 use Rattle.std.proofs.lemmas.Bool.{cases_lt}
 use Rattle.std.proofs.lemmas.List.{length_push, get_or_push, get_or_append_left}
+use Rattle.std.proofs.lemmas.List.Elements.{All-push}
 use Rattle.pq_gate.specs.declared.gate.Gate.{Gate}
 use Rattle.pq_array.specs.Cells.{live, IsLive, rank}
 use Rattle.pq_array.proofs.Ranks.{live_inside, rank-suc_live}
 use Rattle.pq_loop.specs.Segments.{AreOfRun}
+use Rattle.pq_loop.proofs.Growing.{increasing_push}
 
 -- the live places from a gap up to the one of this number, all of them below a place that has the number as its rank
 pub record Runs (cells : List (Option Gate)) (from number place : ℕ) (list : List ℕ) : Type 0 where
@@ -58,6 +60,6 @@ runs_more cells from number place next list runs here same after = record {
   up = omega (arith, runs.up);
   rank_is = let step : next + 1 ≡ suc next = omega arith in rw step (omega (arith, rank-suc_live cells next here, runs.rank_is));
   inside = omega (arith, live_inside cells next here);
-  below = λ k d lt. ?;
-  rising = ?;
+  below = All-push (λ listed. listed < next + 1) list next (λ k d lt. omega (arith, runs.below k d lt)) (omega arith);
+  rising = increasing_push list next runs.rising (λ k d lt. omega (arith, runs.below k d lt));
 }

@@ -66,11 +66,15 @@ pub fn gaps_of(alloc: Global, array: &GateArray, fingers: &Fingers) -> Result<Ve
     ensures gaps { IfOk result (λ gaps. gaps.items ≡ map (rank array.now) fingers.now) }
     ensures rising { IfOk result (λ gaps. IsStrictlyIncreasing gaps.items) }
 {
-    fingers
-        .places()
-        .iter()
-        .map(|place| array.rank(*place))
-        .collect(alloc)
+    ranks_of(alloc, array, fingers.places())
+}
+
+/// The ranks of places.
+fn ranks_of(alloc: Global, array: &GateArray, places: &[u64]) -> Result<Vec<u64>, AllocError>
+    requires { All (λ place. place ≤ length array.now) places.now }
+    ensures { IfOk result (λ ranks. ranks.items ≡ map (rank array.now) places.now) }
+{
+    places.iter().map(|place| array.rank(*place)).collect(alloc)
 }
 
 /// The gaps with these indexes.

@@ -1,7 +1,5 @@
 use Rattle.std.proofs.Common.{◌≡◌, ◌≤◌}
-use Rattle.std.proofs.lemmas.Option.{MatchOption-at_some}
 use Rattle.pq_loop.proofs.Nexts.{next_some, next_rank}
-use Rattle.pq_loop.proofs.Standing.{standing_rises}
 use Rattle.pq_loop.proofs.segments.live_from.Goals as goal
 
 pub unwrap-requires : goal.unwrap-requires
