@@ -11,3 +11,4 @@ pub mod Nexts
 pub mod Growing
 pub mod Running
 pub mod Making
+pub mod Picking
