@@ -12,3 +12,4 @@ pub mod Growing
 pub mod Running
 pub mod Making
 pub mod Picking
+pub mod Cutting
