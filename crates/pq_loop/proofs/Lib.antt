@@ -13,3 +13,4 @@ pub mod Running
 pub mod Making
 pub mod Picking
 pub mod Cutting
+pub mod Numbering
