@@ -14,3 +14,5 @@ pub mod Making
 pub mod Picking
 pub mod Cutting
 pub mod Numbering
+pub mod Moving
+pub mod Collecting
