@@ -4,7 +4,9 @@ use Rattle.std.specs.List.{filter_map}
 use Rattle.std.proofs.lemmas.List.{append-nil, take_more, take_all}
 use Rattle.std.proofs.lemmas.List.Elements.{filter_map-append}
 use Rattle.pq_gate.specs.declared.gate.Gate.{Gate}
-use Rattle.pq_array.specs.Cells.{live}
+use Rattle.std.specs.Prelude.{is_some}
+use Rattle.pq_array.specs.Cells.{live, IsLive}
+use Rattle.pq_array.proofs.Ranks.{rank-lt, rank-le-live}
 
 -- the live gates of the cells up to the next one
 live_next : (cells : List (Option Gate)) (place : ℕ) (cell : Option Gate) → place < length cells → get_or cells place None ≡ cell →
@@ -27,3 +29,10 @@ live_taken cells place gate inside is = live_next cells place (Some gate) inside
 -- at the end all are collected
 pub live_whole : (cells : List (Option Gate)) (place : ℕ) → length cells ≤ place → live (take place cells) ≡ live cells
 live_whole cells place end = ap (λ (c : List (Option Gate)). live c) (take_all place cells end)
+
+-- before a gate they are fewer than all
+pub live_left : (cells : List (Option Gate)) (place : ℕ) (gate : Gate) → get_or cells place None ≡ Some gate →
+    length (live (take place cells)) < length (live cells)
+live_left cells place gate is =
+    let here : IsLive cells place = ap (λ (c : Option Gate). is_some c) is in
+    omega (arith, rank-lt cells place (place + 1) here (omega arith), rank-le-live cells (place + 1))
