@@ -1,5 +1,5 @@
 -- Making the jobs, one for each gap.
-use Rattle.std.proofs.Common.{◌≡◌, ℕ, zero, suc, ◌+◌, ◌-◌, ◌*◌, ◌<◌, ◌≤◌, ◌⊎◌, inl, inr, Option, List, [], ◌∷◌, ◌++◌, length, get_or, refl, sym, ap, ◌∙◌, arith, append_assoc}
+use Rattle.std.proofs.Common.{◌≡◌, ℕ, zero, suc, ◌+◌, ◌*◌, ◌<◌, ◌≤◌, ◌⊎◌, inl, inr, Option, List, [], ◌∷◌, ◌++◌, length, get_or, refl, sym, ap, ◌∙◌, arith, append_assoc}
 use Rattle.std.specs.Prelude.{All, AllPairs}
 use Rattle.std.specs.List.{concat}
 use Rattle.std.specs.List.Sorted.{IsStrictlyIncreasing}
@@ -7,7 +7,7 @@ use Rattle.std.proofs.lemmas.Bool.{cases_lt}
 use Rattle.std.proofs.lemmas.List.{append-nil, length_push, get_or_push, get_or_append_left}
 use Rattle.std.proofs.lemmas.List.Elements.{All-append, All-from_get_or}
 use Rattle.pq_gate.specs.declared.gate.Gate.{Gate}
-use Rattle.pq_array.specs.Cells.{live, IsLive, rank}
+use Rattle.pq_array.specs.Cells.{live, rank}
 use Rattle.pq_array.proofs.Ranks.{rank-le}
 use Rattle.pq_finger.specs.Gaps.{segment_from, segment_to}
 use Rattle.pq_loop.specs.Segments.{AreOfRun, AreJobs}

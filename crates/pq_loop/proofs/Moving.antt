@@ -6,7 +6,7 @@ use Rattle.std.specs.Option.{unwrap_or}
 use Rattle.std.proofs.lemmas.List.{map_push, map_more, length_push, length-map, get_or-map, take_all}
 use Rattle.std.proofs.lemmas.List.Elements.{All-nil, All-push}
 use Rattle.pq_gate.specs.declared.gate.Gate.{Gate}
-use Rattle.pq_array.specs.Cells.{live, rank, IsLive}
+use Rattle.pq_array.specs.Cells.{rank, IsLive}
 use Rattle.pq_array.proofs.Ranks.{rank-le, rank_end}
 use Rattle.pq_finger.proofs.Halfway.{place_up_to}
 use Rattle.pq_loop.specs.Segments.{stands}

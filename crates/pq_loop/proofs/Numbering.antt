@@ -2,7 +2,6 @@
 use Rattle.std.proofs.Common.{◌≡◌, ℕ, ◌+◌, ◌*◌, ◌%◌, ◌≤◌, cond, List, [], ◌∷◌, length, drop, refl, sym, ap, ◌∙◌, arith}
 use Rattle.std.proofs.lemmas.List.{drop_all}
 use Rattle.pq_oracle.specs.Outcomes.{WorkedView}
-use Rattle.pq_loop.specs.declared.one_round.Step.{Step}
 use Rattle.pq_loop.specs.Round.{improved_of, phases_of}
 use Rattle.pq_loop.specs.Segments.{works_of, AreNumbersOf}
 
@@ -39,9 +38,6 @@ pub record SumsUpTo (results : List WorkedView) (index improved phases : ℕ) : 
   pub phases_so_far : phases + phases_in (drop index results) ≡ phases_in results
   pub few : improved ≤ index
   pub low : phases ≤ 255 * index
-
-pub sums_none : (results : List WorkedView) → SumsUpTo results 0 0 0
-sums_none results = record { improved_so_far = omega arith; phases_so_far = omega arith; few = omega arith; low = omega arith }
 
 -- at the end they are those of all
 pub sums_all : (results : List WorkedView) (index improved removed phases : ℕ) → length results ≤ index → SumsUpTo results index improved phases →

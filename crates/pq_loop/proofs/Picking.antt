@@ -1,13 +1,13 @@
 -- The gaps of the selected fingers, and their jobs.
-use Rattle.std.proofs.Common.{◌≡◌, ℕ, ◌+◌, ◌*◌, ◌<◌, ◌≤◌, Option, List, [], ◌∷◌, length, get_or, map, refl, sym, ap, ◌∙◌, arith}
-use Rattle.std.specs.Prelude.{All, AllPairs, Contains, slice_index}
-use Rattle.std.proofs.lemmas.List.{get_or-map, get_or_default}
+use Rattle.std.proofs.Common.{◌≡◌, ℕ, ◌<◌, ◌≤◌, Option, List, [], ◌∷◌, length, get_or, map, refl, sym, arith}
+use Rattle.std.specs.Prelude.{All, slice_index}
+use Rattle.std.proofs.lemmas.List.{get_or-map}
 use Rattle.std.proofs.lemmas.List.Elements.{All-head, All-tail, All-map, All-contains, All-from_get_or, Contains-get_or}
 use Rattle.pq_gate.specs.declared.gate.Gate.{Gate}
 use Rattle.pq_array.specs.Cells.{live, IsLive, rank}
 use Rattle.pq_array.proofs.Ranks.{rank-le-live}
 use Rattle.pq_finger.specs.Gaps.{selected}
-use Rattle.pq_finger.proofs.Selections.{selected_far, selected_contained}
+use Rattle.pq_finger.proofs.Selections.{selected_contained}
 use Rattle.pq_loop.specs.Segments.{AreJobs}
 
 -- selected ranks are gaps of the gates

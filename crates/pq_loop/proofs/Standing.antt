@@ -1,12 +1,12 @@
 -- The places of live gates and the end: their ranks rise as they do.
-use Rattle.std.proofs.Common.{◌≡◌, ℕ, ◌+◌, ◌<◌, ◌≤◌, ◌⊎◌, inl, inr, Option, None, List, length, get_or, map, refl, sym, ap, ◌∙◌, arith, true, eqb, ◌||◌}
+use Rattle.std.proofs.Common.{◌≡◌, ℕ, ◌+◌, ◌<◌, ◌≤◌, ◌⊎◌, inl, inr, Option, None, List, length, get_or, map, arith, true, eqb}
 use Rattle.std.specs.Prelude.{is_some, IsTrue, All}
 use Rattle.std.specs.List.Sorted.{IsStrictlyIncreasing}
 use Rattle.std.proofs.lemmas.Bool.{or_cases, or_left, or_right, eqb-true, eq-eqb, cases_lt}
 use Rattle.std.proofs.lemmas.List.{get_or-map, length-map}
 use Rattle.pq_gate.specs.declared.gate.Gate.{Gate}
 use Rattle.pq_array.specs.Cells.{live, IsLive, rank}
-use Rattle.pq_array.proofs.Ranks.{live_inside, rank-lt, rank_end, rank-le-live}
+use Rattle.pq_array.proofs.Ranks.{live_inside, rank-lt, rank_end}
 use Rattle.pq_loop.specs.Segments.{stands}
 
 -- what stands is a live place or the end

@@ -1,6 +1,5 @@
-use Rattle.std.proofs.Common.{◌≡◌, ◌<◌, ◌∙◌, ap, sym, arith, length, take, get_or, Option, Some, None, List}
+use Rattle.std.proofs.Common.{◌<◌, ◌∙◌, ap, sym, arith, length, List}
 use Rattle.pq_gate.specs.declared.gate.Gate.{Gate}
-use Rattle.pq_array.specs.Cells.{live}
 use Rattle.pq_array.proofs.Ranks.{length-live-le}
 use Rattle.pq_loop.proofs.Collecting.{live_passed, live_taken, live_whole, live_left}
 use Rattle.pq_loop.proofs.looping.live_gates.Goals as goal
@@ -8,8 +7,13 @@ use Rattle.pq_loop.proofs.looping.live_gates.Goals.{in-Some, in_default}
 
 pub push_reserved-requires : goal.push_reserved-requires
 push_reserved-requires c =
-    omega (arith, c.loop-place.gates.ok.0, ap (λ (l : List Gate). length l) c.loop-place.invariant.gates, c.loop-place.invariant.capacity,
-    live_left c.args.array.now c.loop-place.place c.in-Some.gate (sym c.gate_at.ensures ∙ c.in-Some.is))
+    omega (
+      arith,
+      c.loop-place.gates.ok.0,
+      ap (λ (l : List Gate). length l) c.loop-place.invariant.gates,
+      c.loop-place.invariant.capacity,
+      live_left c.args.array.now c.loop-place.place c.in-Some.gate (sym c.gate_at.ensures ∙ c.in-Some.is),
+    )
 
 pub loop-place-preserved : goal.loop-place-preserved
 loop-place-preserved c =
@@ -32,6 +36,10 @@ loop-place-preserved c =
 
 pub of-requires : goal.of-requires
 of-requires c =
-    omega (arith, c.loop-place.gates.ok.0, ap (λ (l : List Gate). length l) c.loop-place.invariant.gates,
-    ap (λ (l : List Gate). length l) (live_whole c.args.array.now c.loop-place.place (omega (arith, c.loop-place-test.false, c.cells-place-end.ensures))),
-    length-live-le c.args.array.now)
+    omega (
+      arith,
+      c.loop-place.gates.ok.0,
+      ap (λ (l : List Gate). length l) c.loop-place.invariant.gates,
+      ap (λ (l : List Gate). length l) (live_whole c.args.array.now c.loop-place.place (omega (arith, c.loop-place-test.false, c.cells-place-end.ensures))),
+      length-live-le c.args.array.now,
+    )

@@ -1,4 +1,4 @@
-use Rattle.std.proofs.Common.{◌≡◌, ◌∙◌, ap, length}
+use Rattle.std.proofs.Common.{length}
 use Rattle.std.specs.Option.{unwrap_or}
 use Rattle.pq_loop.proofs.Moving.{StandsFor, next_stands}
 use Rattle.pq_loop.proofs.one_round.live_or_end.Goals as goal

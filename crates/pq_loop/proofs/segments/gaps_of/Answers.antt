@@ -1,4 +1,4 @@
-use Rattle.std.proofs.Common.{◌≡◌, List, ℕ, map, ap, ◌∙◌}
+use Rattle.std.proofs.Common.{◌≡◌, map}
 use Rattle.std.specs.List.Sorted.{IsStrictlyIncreasing}
 use Rattle.std.proofs.lemmas.Result.{IfOk-weaker}
 use Rattle.pq_array.specs.Cells.{rank}

@@ -1,10 +1,10 @@
-use Rattle.std.proofs.Common.{◌≡◌, ◌+◌, ◌∙◌, ap, arith, get_or, List, ℕ, length}
+use Rattle.std.proofs.Common.{◌∙◌, arith, get_or, length}
 use Rattle.std.specs.List.Sorted.{IsStrictlyIncreasing}
 use Rattle.pq_array.specs.Cells.{live}
 use Rattle.pq_array.proofs.Ranks.{length-live-le}
 use Rattle.pq_finger.specs.Gaps.{segment_from, segment_to}
 use Rattle.pq_loop.specs.Segments.{AreOfRun}
-use Rattle.pq_loop.proofs.Making.{joined_rise, jobs_more, gaps_far, jobs_all}
+use Rattle.pq_loop.proofs.Making.{joined_rise, jobs_more, gaps_far}
 use Rattle.pq_loop.proofs.segments.jobs_of.Goals as goal
 use Rattle.pq_loop.proofs.segments.jobs_of.Goals.{After-as_slice}
 
@@ -30,8 +30,13 @@ add-requires-clause-rising c =
 
 pub add-requires-clause-few : goal.add-requires-clause-few
 add-requires-clause-few c =
-    omega (arith, c.loop-gap.invariant.jobs.count, gaps_far c.args.omega c.args.gaps.now c.loop-gap.gap-index c.requires.least c.requires.apart c.loop-gap-test.true,
-    c.requires.inside c.loop-gap.gap-index 0 c.loop-gap-test.true, length-live-le c.args.array.now)
+    omega (
+      arith,
+      c.loop-gap.invariant.jobs.count,
+      gaps_far c.args.omega c.args.gaps.now c.loop-gap.gap-index c.requires.least c.requires.apart c.loop-gap-test.true,
+      c.requires.inside c.loop-gap.gap-index 0 c.loop-gap-test.true,
+      length-live-le c.args.array.now,
+    )
 
 pub loop-gap-preserved : goal.loop-gap-preserved
 loop-gap-preserved c = record {

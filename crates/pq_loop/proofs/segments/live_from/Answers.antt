@@ -1,4 +1,3 @@
-use Rattle.std.proofs.Common.{◌≡◌, ◌≤◌}
 use Rattle.pq_loop.proofs.Nexts.{next_some, next_rank}
 use Rattle.pq_loop.proofs.segments.live_from.Goals as goal
 

@@ -1,4 +1,4 @@
-use Rattle.std.proofs.Common.{◌≡◌, ◌∙◌}
+use Rattle.std.proofs.Common.{◌∙◌}
 use Rattle.pq_loop.proofs.Running.{runs_more}
 use Rattle.pq_loop.proofs.segments.put_places.Goals as goal
 

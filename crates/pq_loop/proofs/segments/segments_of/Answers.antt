@@ -1,6 +1,6 @@
-use Rattle.std.proofs.Common.{◌≡◌, ◌+◌, ◌*◌, ◌≤◌, ◌∙◌, ap, sym, arith, get_or, List, ℕ, length, map}
-use Rattle.std.specs.Prelude.{All, AllPairs, slice_index}
-use Rattle.pq_array.specs.Cells.{live, rank}
+use Rattle.std.proofs.Common.{◌≡◌, ◌∙◌, ap, sym, List, ℕ, map}
+use Rattle.std.specs.Prelude.{slice_index}
+use Rattle.pq_array.specs.Cells.{rank}
 use Rattle.pq_finger.specs.Gaps.{selected}
 use Rattle.pq_finger.proofs.Selections.{selected_far}
 use Rattle.pq_loop.proofs.Picking.{selected_inside, ranks_at, jobs_live}

@@ -1,4 +1,4 @@
-use Rattle.std.proofs.Common.{◌≡◌, ◌+◌, ◌<◌, ◌∙◌, ap, sym, arith, get_or, List, ℕ, length}
+use Rattle.std.proofs.Common.{◌≡◌, ◌<◌, ◌∙◌, ap, sym, arith, get_or, List, ℕ, length}
 use Rattle.std.proofs.lemmas.List.{get_or_read}
 use Rattle.pq_oracle.specs.Outcomes.{WorkedView}
 use Rattle.pq_loop.proofs.Cutting.{IsCutOf, cuts_more, cuts_all}
