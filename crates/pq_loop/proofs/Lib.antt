@@ -11,3 +11,13 @@ pub mod Lessening
 pub mod Turning
 pub mod Covering
 pub mod Ending
+pub mod Standing
+pub mod Nexts
+pub mod Growing
+pub mod Running
+pub mod Making
+pub mod Picking
+pub mod Cutting
+pub mod Numbering
+pub mod Moving
+pub mod Collecting
