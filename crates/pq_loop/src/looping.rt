@@ -176,6 +176,7 @@ impl Loop {
 
 /// The gates that are left, in order of place.
 fn live_gates(alloc: Global, array: &GateArray) -> Result<GateList, AllocError>
+    requires { length array.now ≤ 1048576 }
     ensures gates { IfOk result (λ list. list.items ≡ live array.now) }
 
     // The list has no room for more.

@@ -86,10 +86,17 @@ fn moved_on(alloc: Global, array: &GateArray, fingers: Fingers) -> Result<Finger
     requires { All (λ place. place ≤ length array.now) fingers }
     ensures { IfOk result (λ moved. AreMoved array.now fingers moved) }
 {
-    let to: Vec<u64> = fingers
-        .places()
-        .iter()
-        .map(|place| array.next_live(*place).unwrap_or(array.cells()))
-        .collect(alloc)?;
+    let mut to = Vec::with_capacity(alloc, fingers.places().len())?;
+    for place in fingers.places() {
+        to.push_reserved(live_or_end(array, *place));
+    }
     Ok(fingers.moved(to.as_slice()))
+}
+
+/// The least live place from this one on, or the end.
+fn live_or_end(array: &GateArray, place: u64) -> u64
+    ensures stands { IsTrue (stands array.now result) }
+    ensures rank { rank array.now result ≡ rank array.now place }
+{
+    array.next_live(place).unwrap_or(array.cells())
 }
