@@ -6,7 +6,7 @@ use Rattle.std.proofs.lemmas.Bool.{cases_lt}
 use Rattle.std.proofs.lemmas.List.{length_push, get_or_push, get_or_append_left}
 use Rattle.std.proofs.lemmas.List.Elements.{All-push}
 use Rattle.pq_gate.specs.declared.gate.Gate.{Gate}
-use Rattle.pq_array.specs.Cells.{live, IsLive, rank}
+use Rattle.pq_array.specs.Cells.{IsLive, rank}
 use Rattle.pq_array.proofs.Ranks.{live_inside, rank-suc_live}
 use Rattle.pq_loop.specs.Segments.{AreOfRun}
 use Rattle.pq_loop.proofs.Growing.{increasing_push}
