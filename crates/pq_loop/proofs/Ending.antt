@@ -1,4 +1,4 @@
-use Rattle.std.proofs.Common.{◌≡◌, ℕ, ◌+◌, ◌*◌, ◌/◌, ◌%◌, ◌<◌, ◌≤◌, List, length, refl, arith, inl, inr, ◌⊎◌}
+use Rattle.std.proofs.Common.{◌≡◌, ℕ, ◌+◌, ◌*◌, ◌/◌, ◌%◌, ◌<◌, ◌≤◌, List, [], length, refl, arith, inl, inr, ◌⊎◌}
 use Rattle.std.specs.Prelude.{All, Contains}
 use Rattle.std.proofs.Math.Nat.{mul_comm}
 use Rattle.std.proofs.lemmas.Bool.{cases_lt}
@@ -18,7 +18,7 @@ use Rattle.pq_loop.proofs.Covering.{state_after, cover_after}
 use Rattle.pq_loop.proofs.Redexes.{redex_run_long}
 
 -- whose fingers overlook nothing
-first_covers : (rules : List RowView) (w : ℕ) (gates : List Gate) → 0 < w → Cover rules w (first_state w gates)
+pub first_covers : (rules : List RowView) (w : ℕ) (gates : List Gate) → 0 < w → Cover rules w (first_state w gates)
 first_covers rules w gates some a b redex up in_list most is = by (cases_lt ((a / w + 1) * w) (length gates))
   where
     long : a < b
@@ -51,11 +51,15 @@ first_covers rules w gates some a b redex up in_list most is = by (cases_lt ((a 
       omega (arith, more, last, in_list),
     )
 
--- where nothing is overlooked, the rounds end with gates in which no run has a redex
+-- where nothing is overlooked and there is no finger, no run has a redex
+pub local_without_fingers : (rules : List RowView) (w : ℕ) (state : State) → length state.fingers ≡ 0 → Cover rules w state → Local rules w state.gates
+local_without_fingers rules w state none cover a b up in_list most redex is =
+    let found = cover a b redex up in_list most is in omega (arith, found.1.1, none)
+
+-- so rounds end with gates in which no run has a redex
 local_from : (rules : List RowView) (w : ℕ) (before : State) (total : Total) → 0 < w → All IsSound rules → IsState before → Cover rules w before →
     Rounds rules w before total → Local rules w total.gates
-local_from rules w _ _ some sound state cover (done gates) =
-    λ a b up in_list most redex is. (let found = cover a b redex up in_list most is in omega (arith, found.1.1))
+local_from rules w _ _ some sound state cover (done gates) = local_without_fingers rules w (record { gates = gates; fingers = [] }) refl cover
 local_from rules w _ _ some sound state cover (round before after step total fingers one rest) =
     local_from rules w after total some sound (state_after rules w before after step some sound state one)
     (cover_after rules w before after step some sound state one cover) rest

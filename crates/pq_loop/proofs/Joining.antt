@@ -104,7 +104,7 @@ joined_same rules w gates least (work ∷ works) n sound fit circuit =
     subst Q e both
 
 -- the works of the selected fingers fit
-fit_from : (rules : List RowView) (w : ℕ) (gates : List Gate) (least : ℕ) (works : List Work) → All (IsWorkOf rules w gates) works →
+pub fit_from : (rules : List RowView) (w : ℕ) (gates : List Gate) (least : ℕ) (works : List Work) → All (IsWorkOf rules w gates) works →
     All (λ finger. finger ≤ length gates) (map (λ (work : Work). work.finger) works) →
     All (λ later. least ≤ segment_from w later) (map (λ (work : Work). work.finger) works) →
     AllPairs (λ gap later. segment_to w (length gates) gap ≤ segment_from w later) (map (λ (work : Work). work.finger) works) →

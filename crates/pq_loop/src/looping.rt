@@ -69,12 +69,8 @@ pub struct Finished {
 impl Loop {
     /// The loop before its first round: the first fingers stand at each multiple of Omega that is less than
     /// the number of gates. Omega is 2 to 1,024, and there are at most 1,048,576 gates.
-    pub fn open(
-        alloc: Global,
-        gates: &[Gate],
-        omega: u32,
-        rules: Rules,
-    ) -> Result<Loop, AllocError>
+    #[tactic(auto, using(crate::proofs::Kept::opened_state))]
+    pub fn open(alloc: Global, gates: &[Gate], omega: u32, rules: Rules) -> Result<Loop, AllocError>
         requires least { 2 ≤ omega }
         requires most { omega ≤ 1024 }
         requires few { length gates.now ≤ 1048576 }
@@ -84,6 +80,8 @@ impl Loop {
         ensures counts { IfOk result (λ made. (made.rounds ≡ 0) × (made.calls ≡ 0) × (made.phase ≡ 0)) }
         ensures first_fingers { IfOk result (λ made. made.first_fingers ≡ length (first_fingers (length gates.now) omega)) }
     {
+        // the rows are sound
+        let _rows = rules.count();
         let array = GateArray::open(alloc, gates)?;
         let fingers = Fingers::first(alloc, gates.len() as u64, omega)?;
         let first_fingers = fingers.places().len() as u64;
@@ -178,6 +176,7 @@ impl Loop {
 
 /// The gates that are left, in order of place.
 fn live_gates(alloc: Global, array: &GateArray) -> Result<GateList, AllocError>
+    requires { length array.now ≤ 1048576 }
     ensures gates { IfOk result (λ list. list.items ≡ live array.now) }
 
     // The list has no room for more.

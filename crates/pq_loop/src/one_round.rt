@@ -46,13 +46,17 @@ pub fn work_round(
     ensures stand { IfOk result (λ made. All (λ place. IsTrue (stands array.new place)) made.0) }
     ensures size { length array.new ≡ length array.old }
 {
+    // the fingers are in order, and the rows are sound
+    let _places = fingers.places();
+    let _rows = rules.count();
     let segments = segments_of(alloc, array, fingers, omega)?;
-    let results = run_round(alloc, array, &segments.jobs, rules, omega)?;
-    let cuts = segments.cuts(alloc, array, results.as_slice())?;
+    let worked = run_round(alloc, array, &segments.jobs, rules, omega)?;
+    let results = worked.as_slice();
+    let cuts = segments.cuts(alloc, array, results)?;
     let settled = fingers.settle(alloc, cuts.as_slice())?;
     let before = array.live();
-    segments.put(array, results.as_slice());
-    let step = step_of(results.as_slice(), before - array.live());
+    segments.put(array, results);
+    let step = step_of(results, before - array.live());
     let fingers = moved_on(alloc, array, settled)?;
     Ok((fingers, step))
 }
@@ -82,10 +86,17 @@ fn moved_on(alloc: Global, array: &GateArray, fingers: Fingers) -> Result<Finger
     requires { All (λ place. place ≤ length array.now) fingers }
     ensures { IfOk result (λ moved. AreMoved array.now fingers moved) }
 {
-    let to: Vec<u64> = fingers
-        .places()
-        .iter()
-        .map(|place| array.next_live(*place).unwrap_or(array.cells()))
-        .collect(alloc)?;
+    let mut to = Vec::with_capacity(alloc, fingers.places().len())?;
+    for place in fingers.places() {
+        to.push_reserved(live_or_end(array, *place));
+    }
     Ok(fingers.moved(to.as_slice()))
+}
+
+/// The least live place from this one on, or the end.
+fn live_or_end(array: &GateArray, place: u64) -> u64
+    ensures stands { IsTrue (stands array.now result) }
+    ensures rank { rank array.now result ≡ rank array.now place }
+{
+    array.next_live(place).unwrap_or(array.cells())
 }

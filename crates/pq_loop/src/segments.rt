@@ -66,11 +66,15 @@ pub fn gaps_of(alloc: Global, array: &GateArray, fingers: &Fingers) -> Result<Ve
     ensures gaps { IfOk result (λ gaps. gaps.items ≡ map (rank array.now) fingers.now) }
     ensures rising { IfOk result (λ gaps. IsStrictlyIncreasing gaps.items) }
 {
-    fingers
-        .places()
-        .iter()
-        .map(|place| array.rank(*place))
-        .collect(alloc)
+    ranks_of(alloc, array, fingers.places())
+}
+
+/// The ranks of places.
+fn ranks_of(alloc: Global, array: &GateArray, places: &[u64]) -> Result<Vec<u64>, AllocError>
+    requires { All (λ place. place ≤ length array.now) places.now }
+    ensures { IfOk result (λ ranks. ranks.items ≡ map (rank array.now) places.now) }
+{
+    places.iter().map(|place| array.rank(*place)).collect(alloc)
 }
 
 /// The gaps with these indexes.
@@ -78,16 +82,14 @@ fn picked(alloc: Global, gaps: &[u64], indexes: &[u64]) -> Result<Vec<u64>, Allo
     requires { All (λ index. index < length gaps.now) indexes.now }
     ensures { IfOk result (λ list. list.items ≡ map (slice_index gaps.now) indexes.now) }
 {
-    indexes.iter().map(|index| gaps[*index as usize]).collect(alloc)
+    indexes
+        .iter()
+        .map(|index| gaps[*index as usize])
+        .collect(alloc)
 }
 
 /// For each gap the places of the gates of its segment.
-fn jobs_of(
-    alloc: Global,
-    array: &GateArray,
-    gaps: &[u64],
-    omega: u32,
-) -> Result<Jobs, AllocError>
+fn jobs_of(alloc: Global, array: &GateArray, gaps: &[u64], omega: u32) -> Result<Jobs, AllocError>
     requires least { 2 ≤ omega }
     requires most { omega ≤ 1024 }
     requires few { length array.now ≤ 1048576 }
@@ -192,12 +194,18 @@ impl Segments {
         requires few { length array.now ≤ 1048576 }
         ensures { IfOk result (λ cuts. (places : List ℕ) → AreOfFingers array.now places self.now →
             AllZip (IsAtPlaces (rank array.now) (stands array.now) (length (live array.now)) places)
-                (map cut_of (works_in array.now self.now results.now)) cuts.items) }
+            (map cut_of (works_in array.now self.now results.now)) cuts.items) }
     {
         let mut cuts = Vec::with_capacity(alloc, results.len())?;
         for (number, worked) in results.iter().enumerate() {
             let finger = self.fingers.as_slice()[number];
-            cuts.push_reserved(cut_at(array, finger, self.gaps[number], self.omega, worked.improved()));
+            cuts.push_reserved(cut_at(
+                array,
+                finger,
+                self.gaps[number],
+                self.omega,
+                worked.improved(),
+            ));
         }
         Ok(cuts)
     }

@@ -1,0 +1,7 @@
+use Rattle.pq_loop.proofs.Kept.{kept_first}
+use Rattle.pq_loop.proofs.looping.Loop.open.Goals as goal
+
+pub invariant_of-result : goal.invariant_of-result
+invariant_of-result c =
+    kept_first c.args.gates.now c.in_ok-array.ensures.cells c.in_ok-fingers.ensures c.count-rows.ensures.sound
+    c.requires.few c.requires.least c.requires.most
