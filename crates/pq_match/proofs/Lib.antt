@@ -10,6 +10,7 @@ pub mod RewritingWires
 pub mod Growing
 pub mod GrowingWalk
 pub mod SearchWires
+pub mod SearchTouches
 pub mod SearchChoice
 pub mod SearchGates
 pub mod SearchPlaces

@@ -1,4 +1,5 @@
 ghost use Rattle.std.specs.Prelude.{◌≡◌, ℕ, ◌+◌, ◌<◌, ◌≤◌, ◌↔◌, IsTrue, true, false, length, slice_index, slice_set};
+ghost use Rattle.pq_gate.specs.Commuting.{Touches, Commutes};
 ghost use Rattle.pq_rules.specs.Kinds.{kind_of};
 ghost use Rattle.pq_match.specs.Found.{FindsWithin};
 ghost use Rattle.pq_match.specs.Search.{IsAlike, AreAlike, IsFitting, IsNext, IsPassable, IsGrown, FindsFull, AreEight, FindsAmong, IsFrom, IsOfRow};
@@ -65,7 +66,7 @@ fn find_row(gates: &[Gate], rules: &Rules, number: u32, start: u32, end: u32) ->
         return None;
     };
     let pattern = row.pattern();
-    let Some(places) = extend_at(gates, pattern, end, [0; 8], 0, start) else {
+    let Some(places) = extend_at(gates, pattern, end, &[0; 8], 0, start) else {
         return None;
     };
     Some(Redex {
@@ -82,7 +83,7 @@ fn extend_at(
     gates: &[Gate],
     pattern: &[Gate],
     end: u32,
-    places: [u32; 8],
+    places: &[u32; 8],
     count: usize,
     place: u32,
 ) -> Option<[u32; 8]>
@@ -91,12 +92,12 @@ fn extend_at(
     requires end { end ≤ length gates.now }
     requires next { count < length pattern.now }
     requires place { place < end }
-    requires grown { IsGrown gates.now pattern.now end places count }
-    requires behind { IsNext gates.now places count place }
-    requires eight { AreEight places count }
-    ensures { FindsFull gates.now pattern.now end (slice_set places count place) (count + 1) result }
+    requires grown { IsGrown gates.now pattern.now end places.now count }
+    requires behind { IsNext gates.now places.now count place }
+    requires eight { AreEight places.now count }
+    ensures { FindsFull gates.now pattern.now end (slice_set places.now count place) (count + 1) result }
 {
-    let mut grown = places;
+    let mut grown = *places;
     grown[count] = place;
     if !fits(gates, pattern, &grown, count) {
         return None;
@@ -104,7 +105,34 @@ fn extend_at(
     if count + 1 == pattern.len() {
         return Some(grown);
     }
-    extend(gates, pattern, end, grown, count + 1)
+    extend(gates, pattern, end, &grown, count + 1)
+}
+
+// The same, where the gate at the place is of the kind of the next gate of the pattern; it fits nowhere else.
+#[cycle(growing)]
+#[tactic(auto, using(crate::proofs::Growing::nothing_of_kind))]
+fn extend_by_kind(
+    gates: &[Gate],
+    pattern: &[Gate],
+    end: u32,
+    places: &[u32; 8],
+    count: usize,
+    place: u32,
+) -> Option<[u32; 8]>
+    requires few { length gates.now ≤ 1048576 }
+    requires short { length pattern.now ≤ 8 }
+    requires end { end ≤ length gates.now }
+    requires next { count < length pattern.now }
+    requires place { place < end }
+    requires grown { IsGrown gates.now pattern.now end places.now count }
+    requires behind { IsNext gates.now places.now count place }
+    requires eight { AreEight places.now count }
+    ensures { FindsFull gates.now pattern.now end (slice_set places.now count place) (count + 1) result }
+{
+    if !are_of_one_kind(gates[place as usize], pattern[count]) {
+        return None;
+    }
+    extend_at(gates, pattern, end, places, count, place)
 }
 
 // Chooses the least places for the gates of the pattern that have none yet.
@@ -114,7 +142,7 @@ fn extend(
     gates: &[Gate],
     pattern: &[Gate],
     end: u32,
-    places: [u32; 8],
+    places: &[u32; 8],
     count: usize,
 ) -> Option<[u32; 8]>
     requires few { length gates.now ≤ 1048576 }
@@ -122,15 +150,15 @@ fn extend(
     requires end { end ≤ length gates.now }
     requires next { count < length pattern.now }
     requires some { 0 < count }
-    requires grown { IsGrown gates.now pattern.now end places count }
-    requires eight { AreEight places count }
-    ensures { FindsFull gates.now pattern.now end places count result }
+    requires grown { IsGrown gates.now pattern.now end places.now count }
+    requires eight { AreEight places.now count }
+    ensures { FindsFull gates.now pattern.now end places.now count result }
 {
     for place in places[count - 1] + 1..end {
-        if let Some(found) = extend_at(gates, pattern, end, places, count, place) {
+        if let Some(found) = extend_by_kind(gates, pattern, end, places, count, place) {
             return Some(found);
         }
-        if !is_passable(gates, &places, count, place) {
+        if !is_passable(gates, places, count, place) {
             return None;
         }
     }
@@ -163,12 +191,37 @@ fn is_passable(gates: &[Gate], places: &[u32; 8], count: usize, place: u32) -> b
     requires inside { (s : ℕ) → s < count → slice_index places.now s < length gates.now }
     ensures { IsTrue result ↔ IsPassable gates.now places.now count place }
 {
+    let gate = gates[place as usize];
     for s in 0..count {
-        if !commutes(gates[places[s] as usize], gates[place as usize]) {
+        if !are_commuting(gates[places[s] as usize], gate) {
             return false;
         }
     }
     true
+}
+
+// whether the gates commute; most share no wire, and that is seen first
+fn are_commuting(first: Gate, second: Gate) -> bool
+    ensures { IsTrue result ↔ Commutes first second }
+{
+    are_apart(first, second) || commutes(first, second)
+}
+
+// whether the gates share no wire
+#[tactic(auto, using(crate::proofs::SearchTouches::apart_by_both))]
+fn are_apart(first: Gate, second: Gate) -> bool
+    ensures { IsTrue result ↔ ((w : ℕ) → Touches first w → Touches second w → ⊥) }
+{
+    let (wire, other) = wires_of(first);
+    !touches(second, wire) && !touches(second, other)
+}
+
+// whether the wire is one of the gate's wires
+fn touches(gate: Gate, wire: u32) -> bool
+    ensures { IsTrue result ↔ Touches gate wire }
+{
+    let (own, other) = wires_of(gate);
+    wire == own || wire == other
 }
 
 // whether the wires of two gates are equal exactly where those of the pattern's gates are
