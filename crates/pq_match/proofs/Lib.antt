@@ -11,6 +11,7 @@ pub mod Growing
 pub mod GrowingWalk
 pub mod SearchWires
 pub mod SearchTouches
+pub mod SearchNear
 pub mod SearchChoice
 pub mod SearchGates
 pub mod SearchPlaces

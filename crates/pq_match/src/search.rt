@@ -1,13 +1,14 @@
-ghost use Rattle.std.specs.Prelude.{◌≡◌, ℕ, ◌+◌, ◌<◌, ◌≤◌, ◌↔◌, IsTrue, true, false, length, slice_index, slice_set};
+ghost use Rattle.std.specs.Prelude.{◌≡◌, ℕ, ◌+◌, ◌<◌, ◌≤◌, ◌↔◌, IsTrue, true, false, [], ◌∷◌, length, slice_index, slice_index_or, slice_set};
 ghost use Rattle.pq_gate.specs.Commuting.{Touches, Commutes};
 ghost use Rattle.pq_rules.specs.Kinds.{kind_of};
+ghost use Rattle.pq_match.specs.Redex.{gate_at};
 ghost use Rattle.pq_match.specs.Found.{FindsWithin};
 ghost use Rattle.pq_match.specs.Search.{IsAlike, AreAlike, IsFitting, IsNext, IsPassable, IsGrown, FindsFull, AreEight, FindsAmong, IsFrom, IsOfRow};
 
 use crate::redex::Redex;
 use crate::segment::Seg;
 use crate::wires::wires_of;
-use pq_gate::{Gate, commutes};
+use pq_gate::{Eighths, Gate, commutes};
 use pq_rules::Rules;
 
 /// The first redex of a segment: the least first place, then the least row, then the least places in
@@ -47,25 +48,66 @@ fn find_from(gates: &[Gate], rules: &Rules, start: u32, end: u32) -> Option<Rede
     requires end { end ≤ length gates.now }
     ensures { FindsAmong (IsFrom start end) rules.now gates.now result }
 {
+    let near = kinds_near(gates, start, end);
     for number in rules.rows_starting(gates[start as usize]) {
-        if let Some(redex) = find_row(gates, rules, *number, start, end) {
+        if let Some(redex) = find_row(gates, rules, *number, start, end, &near) {
             return Some(redex);
         }
     }
     None
 }
 
-// the first of these redexes that are of this row
-fn find_row(gates: &[Gate], rules: &Rules, number: u32, start: u32, end: u32) -> Option<Redex>
+// The kinds of the gates that share a wire with the gate at the start, and that it may be moved up to: the first
+// gate of a match that shares a wire with the match's first gate is of one of these kinds.
+#[tactic(auto, using(crate::proofs::SearchNear::near_begins, crate::proofs::SearchNear::near_passes, crate::proofs::SearchNear::near_grows, crate::proofs::SearchNear::near_stops, crate::proofs::SearchNear::near_ends))]
+fn kinds_near(gates: &[Gate], start: u32, end: u32) -> [bool; 10]
     requires few { length gates.now ≤ 1048576 }
     requires start { start < end }
     requires end { end ≤ length gates.now }
+    ensures { (place w : ℕ) → IsNext gates.now (start ∷ []) 1 place → place < end
+        → Touches (gate_at gates.now start) w → Touches (gate_at gates.now place) w
+        → slice_index_or result (kind_of (gate_at gates.now place)) false ≡ true }
+{
+    let gate = gates[start as usize];
+    let mut near = [false; 10];
+    for place in start + 1..end {
+        let other = gates[place as usize];
+        if are_apart(gate, other) {
+            continue;
+        }
+        near[kind(other)] = true;
+        if !commutes(gate, other) {
+            return near;
+        }
+    }
+    near
+}
+
+// the first of these redexes that are of this row
+fn find_row(
+    gates: &[Gate],
+    rules: &Rules,
+    number: u32,
+    start: u32,
+    end: u32,
+    near: &[bool; 10],
+) -> Option<Redex>
+    requires few { length gates.now ≤ 1048576 }
+    requires start { start < end }
+    requires end { end ≤ length gates.now }
+    requires near { (place w : ℕ) → IsNext gates.now (start ∷ []) 1 place → place < end
+        → Touches (gate_at gates.now start) w → Touches (gate_at gates.now place) w
+        → slice_index_or near.now (kind_of (gate_at gates.now place)) false ≡ true }
     ensures { FindsAmong (IsOfRow number start end) rules.now gates.now result }
 {
     let Some(row) = rules.row(number) else {
         return None;
     };
     let pattern = row.pattern();
+    let second = nearest_of(pattern);
+    if second < pattern.len() && !near[kind(pattern[second])] {
+        return None;
+    }
     let Some(places) = extend_at(gates, pattern, end, &[0; 8], 0, start) else {
         return None;
     };
@@ -74,6 +116,24 @@ fn find_row(gates: &[Gate], rules: &Rules, number: u32, start: u32, end: u32) ->
         count: pattern.len() as u8,
         places,
     })
+}
+
+// the number of the first gate that shares a wire with the first, or of none
+fn nearest_of(pattern: &[Gate]) -> usize
+    requires { 0 < length pattern.now }
+    ensures some { 0 < result }
+    ensures apart { (number w : ℕ) → 0 < number → number < result
+        → Touches (gate_at pattern.now 0) w → Touches (gate_at pattern.now number) w → ⊥ }
+    ensures near { result < length pattern.now
+        → ((w : ℕ) → Touches (gate_at pattern.now 0) w → Touches (gate_at pattern.now result) w → ⊥) → ⊥ }
+{
+    let first = pattern[0];
+    for number in 1..pattern.len() {
+        if !are_apart(first, pattern[number]) {
+            return number;
+        }
+    }
+    pattern.len()
 }
 
 // Chooses this place for the next gate of the pattern, and the least places for the others.
@@ -240,6 +300,25 @@ fn is_alike(of_wire: u32, of_gate: Gate, wire: u32, gate: Gate) -> bool
     let (p, q) = wires_of(of_gate);
     let (v, w) = wires_of(gate);
     (wire == v) == (of_wire == p) && (wire == w) == (of_wire == q)
+}
+
+// the kind of a gate, as a number
+fn kind(gate: Gate) -> usize
+    ensures kind { result ≡ kind_of gate }
+    ensures few { result < 10 }
+{
+    match gate {
+        Gate::H { .. } => 0,
+        Gate::X { .. } => 1,
+        Gate::Cx { .. } => 2,
+        Gate::Phase { eighths, .. } => match eighths {
+            Eighths::T => 3,
+            Eighths::S => 4,
+            Eighths::Z => 6,
+            Eighths::Sdg => 8,
+            Eighths::Tdg => 9,
+        },
+    }
 }
 
 // whether the gates are of one kind: phases, by the same eighths
