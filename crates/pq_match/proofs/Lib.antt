@@ -9,6 +9,7 @@ pub mod RewritingPlaces
 pub mod RewritingWires
 pub mod Growing
 pub mod GrowingWalk
+pub mod GrowingSkips
 pub mod SearchWires
 pub mod SearchTouches
 pub mod SearchNear

@@ -10,7 +10,7 @@ use Rattle.pq_match.specs.Redex.{gate_at}
 use Rattle.pq_match.specs.Wires.{wire_of}
 use Rattle.pq_match.specs.Search.{AreAlike, IsPassed, IsNext, IsFull, Begins, HasNoFull}
 use Rattle.pq_match.proofs.SearchPlaces.{StandsAt}
-use Rattle.pq_match.proofs.SearchTouches.{touched, touching}
+use Rattle.pq_match.proofs.SearchTouches.{share_alike, share_back}
 
 -- the gates behind the start and before the place that share a wire with the gate at the start are of these kinds
 pub record IsNear (gates : List Gate) (start place : ℕ) (near : List Bool) : Type 0 where
@@ -100,23 +100,6 @@ stands_or_passed places (suc count) place = by (cases_order (get_or places count
     by other (inl stands) = (let less : stands.0 < count = stands.1 in inl (stands.0, omega arith, stands.2))
     by (inr (inl less)) (inr front) = inr (passed (omega arith) front)
     by (inr (inr more)) (inr front) = inr (passed (omega arith) front)
-
--- Gates that are alike share a wire exactly where the pattern's gates do.
-share_alike : (of_first of_second first second : Gate) → AreAlike of_first of_second first second → (w : ℕ) → Touches of_first w → Touches of_second w →
-    (v : ℕ) × Touches first v × Touches second v
-share_alike of_first of_second first second alike w uses_first uses_second =
-    let one = touched of_first w uses_first in
-    let other = touched of_second w uses_second in
-    let same : wire_of one.0 first ≡ wire_of other.0 second = (alike one.0 other.0).1 (sym one.1 ∙ other.1) in
-    (wire_of one.0 first, touching first one.0, subst (Touches second) (sym same) (touching second other.0))
-
-share_back : (of_first of_second first second : Gate) → AreAlike of_first of_second first second → (w : ℕ) → Touches first w → Touches second w →
-    (v : ℕ) × Touches of_first v × Touches of_second v
-share_back of_first of_second first second alike w uses_first uses_second =
-    let one = touched first w uses_first in
-    let other = touched second w uses_second in
-    let same : wire_of one.0 of_first ≡ wire_of other.0 of_second = (alike one.0 other.0).0 (sym one.1 ∙ other.1) in
-    (wire_of one.0 of_first, touching of_first one.0, subst (Touches of_second) (sym same) (touching of_second other.0))
 
 -- Where the first gate of the pattern that shares a wire with its first is of another kind, nothing begins at the start.
 module _ (gates pattern : List Gate) (start end second : ℕ) (near : List Bool) (front : List ℕ) (at_start : get_or front 0 0 ≡ start)

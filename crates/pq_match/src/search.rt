@@ -1,4 +1,4 @@
-ghost use Rattle.std.specs.Prelude.{◌≡◌, ℕ, ◌+◌, ◌<◌, ◌≤◌, ◌↔◌, IsTrue, true, false, [], ◌∷◌, length, slice_index, slice_index_or, slice_set};
+ghost use Rattle.std.specs.Prelude.{◌≡◌, ℕ, ◌+◌, ◌%◌, ◌<◌, ◌≤◌, ◌↔◌, IsTrue, true, false, [], ◌∷◌, length, slice_index, slice_index_or, slice_set};
 ghost use Rattle.pq_gate.specs.Commuting.{Touches, Commutes};
 ghost use Rattle.pq_rules.specs.Kinds.{kind_of};
 ghost use Rattle.pq_match.specs.Redex.{gate_at};
@@ -197,7 +197,7 @@ fn extend_by_kind(
 
 // Chooses the least places for the gates of the pattern that have none yet.
 #[cycle(growing)]
-#[tactic(auto, using(crate::proofs::GrowingWalk::walk_starts, crate::proofs::GrowingWalk::walk_goes_on, crate::proofs::GrowingWalk::walk_is_stuck, crate::proofs::GrowingWalk::walk_ends))]
+#[tactic(auto, using(crate::proofs::GrowingWalk::walk_is_stuck, crate::proofs::GrowingWalk::walk_ends))]
 fn extend(
     gates: &[Gate],
     pattern: &[Gate],
@@ -214,15 +214,83 @@ fn extend(
     requires eight { AreEight places.now count }
     ensures { FindsFull gates.now pattern.now end places.now count result }
 {
-    for place in places[count - 1] + 1..end {
+    let used = wires_used(gates, places, count);
+    let free = stands_apart(pattern, count);
+    let mut place = next_place(gates, &used, free, pattern[count], places[count - 1] + 1, end);
+    'walk: while place < end {
         if let Some(found) = extend_by_kind(gates, pattern, end, places, count, place) {
             return Some(found);
         }
         if !is_passable(gates, places, count, place) {
             return None;
         }
+        place = next_place(gates, &used, free, pattern[count], place + 1, end);
     }
     None
+}
+
+// The wires of the chosen gates, each by its remainder.
+fn wires_used(gates: &[Gate], places: &[u32; 8], count: usize) -> [bool; 64]
+    requires few { count ≤ 8 }
+    requires inside { (s : ℕ) → s < count → slice_index places.now s < length gates.now }
+    ensures { (s w : ℕ) → s < count → Touches (gate_at gates.now (slice_index places.now s)) w → slice_index_or result (w % 64) false ≡ true }
+{
+    let mut used = [false; 64];
+    for chosen in 0..count {
+        use_wires(&mut used, gates[places[chosen] as usize]);
+    }
+    used
+}
+
+// puts in the wires of the gate
+fn use_wires(used: &mut [bool; 64], gate: Gate)
+    ensures own { (w : ℕ) → Touches gate w → slice_index_or used.new (w % 64) false ≡ true }
+    ensures others { (k : ℕ) → slice_index_or used.old k false ≡ true → slice_index_or used.new k false ≡ true }
+{
+    let (wire, other) = wires_of(gate);
+    used[wire as usize % 64] = true;
+    used[other as usize % 64] = true;
+}
+
+// whether the gate shares no wire with those before it
+fn stands_apart(pattern: &[Gate], number: usize) -> bool
+    requires { number < length pattern.now }
+    ensures { IsTrue result ↔ ((before w : ℕ) → before < number → Touches (gate_at pattern.now before) w → Touches (gate_at pattern.now number) w → ⊥) }
+{
+    for before in 0..number {
+        if !are_apart(pattern[before], pattern[number]) {
+            return false;
+        }
+    }
+    true
+}
+
+// The next place where the walk has to look: where the gate may use one of the wires, or, for a gate that may
+// stand on any wires, is of its kind.
+fn next_place(gates: &[Gate], used: &[bool; 64], free: bool, next: Gate, from: u32, end: u32) -> u32
+    requires few { length gates.now ≤ 1048576 }
+    requires from { from ≤ end }
+    requires end { end ≤ length gates.now }
+    ensures behind { from ≤ result }
+    ensures within { result ≤ end }
+    ensures unused { (place w : ℕ) → from ≤ place → place < result → Touches (gate_at gates.now place) w → slice_index_or used.now (w % 64) false ≡ false }
+    ensures kinds { (place : ℕ) → from ≤ place → place < result → free ≡ true → kind_of (gate_at gates.now place) ≡ kind_of next → ⊥ }
+{
+    for place in from..end {
+        let gate = gates[place as usize];
+        if may_use(gate, used) || free && are_of_one_kind(gate, next) {
+            return place;
+        }
+    }
+    end
+}
+
+// true where the gate uses one of the wires
+fn may_use(gate: Gate, used: &[bool; 64]) -> bool
+    ensures { result ≡ false → (w : ℕ) → Touches gate w → slice_index_or used.now (w % 64) false ≡ false }
+{
+    let (wire, other) = wires_of(gate);
+    used[wire as usize % 64] || used[other as usize % 64]
 }
 
 // whether the gate at the last of the places fits to the pattern, and to the gates before it

@@ -12,5 +12,8 @@ decreases-extend_by_kind l = 3 * (length l.pattern.now - l.count) + 1
 abbrev pub decreases-extend_at : goal.decreases-extend_at
 decreases-extend_at l = 3 * (length l.pattern.now - l.count)
 
-abbrev pub invariant-extend-loop-place : goal.invariant-extend-loop-place
-invariant-extend-loop-place l = IsWalked l.gates l.pattern l.end l.places l.count l.place
+abbrev pub decreases-extend-walk : goal.decreases-extend-walk
+decreases-extend-walk l = l.end - l.place
+
+abbrev pub invariant-extend-walk : goal.invariant-extend-walk
+invariant-extend-walk l = IsWalked l.gates l.pattern l.end l.places l.count l.place
