@@ -341,7 +341,7 @@ fn are_apart(first: Gate, second: Gate) -> bool
     ensures { IsTrue result ↔ ((w : ℕ) → Touches first w → Touches second w → ⊥) }
 {
     let (wire, other) = wires_of(first);
-    !touches(second, wire) && !touches(second, other)
+    !touches(second, wire) && (other == wire || !touches(second, other))
 }
 
 // whether the wire is one of the gate's wires
