@@ -1,14 +1,20 @@
 -- The places that the walk leaves out: the gates there use no wire of the chosen ones, and the next gate can't stand there.
-use Rattle.std.proofs.Common.{◌≡◌, ℕ, ◌+◌, ◌%◌, ◌<◌, ◌≤◌, Bool, true, false, List, length, get_or, refl, sym, ap, subst, ◌∙◌, arith, inl, inr, ◌⊎◌}
+use Rattle.std.proofs.Common.{◌≡◌, ℕ, ◌%◌, ◌<◌, ◌≤◌, Bool, true, false, List, length, get_or, refl, sym, subst, ◌∙◌, arith, inl, inr, ◌⊎◌}
 use Rattle.std.proofs.lemmas.Bool.{cases_order}
 use Rattle.pq_gate.specs.declared.gate.Gate.{Gate}
 use Rattle.pq_gate.specs.Commuting.{Touches, Commutes}
 use Rattle.pq_rules.specs.Kinds.{kind_of}
 use Rattle.pq_match.specs.Redex.{gate_at}
-use Rattle.pq_match.specs.Search.{AreAlike, IsPassed, IsFull, Begins}
+use Rattle.pq_match.specs.Search.{IsPassed, IsFull, Begins}
 use Rattle.pq_match.proofs.GrowingWalk.{IsWalked}
 use Rattle.pq_match.proofs.SearchTouches.{commute_apart, share_alike}
 
+-- The gates from a place up to another use no wire of those in use, and aren't of the kind of a gate that may stand anywhere.
+pub record AreSkipped (gates : List Gate) (used : List Bool) (free : Bool) (next : Gate) (from place : ℕ) : Type 0 where
+  pub unused : (p w : ℕ) → from ≤ p → p < place → Touches (gate_at gates p) w → get_or used (w % 64) false ≡ false
+  pub kinds : (p : ℕ) → from ≤ p → p < place → free ≡ true → kind_of (gate_at gates p) ≡ kind_of next → ⊥
+
+-- Past such places the walk goes on as if it had looked at each of them.
 pub walk_skips : (gates pattern : List Gate) (end : ℕ) (places : List ℕ) (count place next : ℕ) (used : List Bool) (free : Bool) →
     IsWalked gates pattern end places count place → count < length pattern → place ≤ next →
     ((s w : ℕ) → s < count → Touches (gate_at gates (get_or places s 0)) w → get_or used (w % 64) false ≡ true) →
@@ -52,8 +58,3 @@ walk_skips gates pattern end places count place next used free walked more upto 
     none other full begins (inl same) = omega arith
     none other full begins (inr (inl less)) = absurd (never other full begins less free refl)
     none other full begins (inr (inr behind)) = omega arith
-
--- The gates from a place up to another use no wire of those in use, and aren't of the kind of a gate that may stand anywhere.
-pub record AreSkipped (gates : List Gate) (used : List Bool) (free : Bool) (next : Gate) (from place : ℕ) : Type 0 where
-  pub unused : (p w : ℕ) → from ≤ p → p < place → Touches (gate_at gates p) w → get_or used (w % 64) false ≡ false
-  pub kinds : (p : ℕ) → from ≤ p → p < place → free ≡ true → kind_of (gate_at gates p) ≡ kind_of next → ⊥

@@ -1,5 +1,5 @@
 -- The kinds of the gates that share a wire with the first gate of a match, and that it may be moved up to.
-use Rattle.std.proofs.Common.{◌≡◌, ◌≢◌, ℕ, zero, suc, ◌+◌, ◌<◌, ◌≤◌, Bool, true, false, List, [], ◌∷◌, length, get_or, set, inl, inr, ◌⊎◌, refl, sym, ap, subst, ◌∙◌, arith}
+use Rattle.std.proofs.Common.{◌≡◌, ◌≢◌, ℕ, zero, suc, ◌+◌, ◌<◌, ◌≤◌, Bool, true, false, List, [], ◌∷◌, length, get_or, set, inl, inr, ◌⊎◌, sym, ap, subst, ◌∙◌, arith}
 use Rattle.std.proofs.lemmas.Bool.{cases_order}
 use Rattle.std.proofs.lemmas.Grind.{get_or-set_at}
 use Rattle.std.proofs.lemmas.List.{length-set, get_or-set_other}
@@ -7,9 +7,7 @@ use Rattle.pq_gate.specs.declared.gate.Gate.{Gate}
 use Rattle.pq_gate.specs.Commuting.{Touches, Commutes}
 use Rattle.pq_rules.specs.Kinds.{kind_of}
 use Rattle.pq_match.specs.Redex.{gate_at}
-use Rattle.pq_match.specs.Wires.{wire_of}
 use Rattle.pq_match.specs.Search.{AreAlike, IsPassed, IsNext, IsFull, Begins, HasNoFull}
-use Rattle.pq_match.proofs.SearchPlaces.{StandsAt}
 use Rattle.pq_match.proofs.SearchTouches.{share_alike, share_back}
 
 -- the gates behind the start and before the place that share a wire with the gate at the start are of these kinds
@@ -104,7 +102,7 @@ stands_or_passed places (suc count) place = by (cases_order (get_or places count
 -- Where the first gate of the pattern that shares a wire with its first is of another kind, nothing begins at the start.
 module _ (gates pattern : List Gate) (start end second : ℕ) (near : List Bool) (front : List ℕ) (at_start : get_or front 0 0 ≡ start)
     (are : (p w : ℕ) → IsNext gates (start ∷ []) 1 p → p < end →
-        Touches (gate_at gates start) w → Touches (gate_at gates p) w → get_or near (kind_of (gate_at gates p)) false ≡ true)
+    Touches (gate_at gates start) w → Touches (gate_at gates p) w → get_or near (kind_of (gate_at gates p)) false ≡ true)
     (behind : 0 < second) (below : second < length pattern)
     (apart : (number w : ℕ) → 0 < number → number < second → Touches (gate_at pattern 0) w → Touches (gate_at pattern number) w → ⊥)
     (share : ((w : ℕ) → Touches (gate_at pattern 0) w → Touches (gate_at pattern second) w → ⊥) → ⊥)

@@ -57,8 +57,9 @@ fn find_from(gates: &[Gate], rules: &Rules, start: u32, end: u32) -> Option<Rede
     None
 }
 
-// The kinds of the gates that share a wire with the gate at the start, and that it may be moved up to: the first
-// gate of a match that shares a wire with the match's first gate is of one of these kinds.
+// The kinds of the gates behind the start that share a wire with the gate there, up to the first that doesn't
+// commute with it. In a match that begins at the start, the next gate that shares a wire with the first is of
+// one of these kinds, so one pass rules out most rows.
 #[tactic(auto, using(crate::proofs::SearchNear::near_begins, crate::proofs::SearchNear::near_passes, crate::proofs::SearchNear::near_grows, crate::proofs::SearchNear::near_stops, crate::proofs::SearchNear::near_ends))]
 fn kinds_near(gates: &[Gate], start: u32, end: u32) -> [bool; 10]
     requires few { length gates.now ≤ 1048576 }
@@ -118,7 +119,7 @@ fn find_row(
     })
 }
 
-// the number of the first gate that shares a wire with the first, or of none
+// the number of the next gate that shares a wire with the pattern's first, or the length where there is none
 fn nearest_of(pattern: &[Gate]) -> usize
     requires { 0 < length pattern.now }
     ensures some { 0 < result }
@@ -168,7 +169,7 @@ fn extend_at(
     extend(gates, pattern, end, &grown, count + 1)
 }
 
-// The same, where the gate at the place is of the kind of the next gate of the pattern; it fits nowhere else.
+// The same, where the kind of the gate is looked at first.
 #[cycle(growing)]
 #[tactic(auto, using(crate::proofs::Growing::nothing_of_kind))]
 fn extend_by_kind(
@@ -216,7 +217,14 @@ fn extend(
 {
     let used = wires_used(gates, places, count);
     let free = stands_apart(pattern, count);
-    let mut place = next_place(gates, &used, free, pattern[count], places[count - 1] + 1, end);
+    let mut place = next_place(
+        gates,
+        &used,
+        free,
+        pattern[count],
+        places[count - 1] + 1,
+        end,
+    );
     'walk: while place < end {
         if let Some(found) = extend_by_kind(gates, pattern, end, places, count, place) {
             return Some(found);
@@ -229,7 +237,7 @@ fn extend(
     None
 }
 
-// The wires of the chosen gates, each by its remainder.
+// The wires of the chosen gates, each by its remainder by 64, which other wires may have too.
 fn wires_used(gates: &[Gate], places: &[u32; 8], count: usize) -> [bool; 64]
     requires few { count ≤ 8 }
     requires inside { (s : ℕ) → s < count → slice_index places.now s < length gates.now }
@@ -242,7 +250,7 @@ fn wires_used(gates: &[Gate], places: &[u32; 8], count: usize) -> [bool; 64]
     used
 }
 
-// puts in the wires of the gate
+// adds the wires of the gate
 fn use_wires(used: &mut [bool; 64], gate: Gate)
     ensures own { (w : ℕ) → Touches gate w → slice_index_or used.new (w % 64) false ≡ true }
     ensures others { (k : ℕ) → slice_index_or used.old k false ≡ true → slice_index_or used.new k false ≡ true }
@@ -265,8 +273,8 @@ fn stands_apart(pattern: &[Gate], number: usize) -> bool
     true
 }
 
-// The next place where the walk has to look: where the gate may use one of the wires, or, for a gate that may
-// stand on any wires, is of its kind.
+// The next place where the walk has to look: the gate there may use a wire of the chosen gates, or is of the
+// kind of the next gate, where that is free to use other wires. All places before it are passed over.
 fn next_place(gates: &[Gate], used: &[bool; 64], free: bool, next: Gate, from: u32, end: u32) -> u32
     requires few { length gates.now ≤ 1048576 }
     requires from { from ≤ end }
@@ -285,7 +293,7 @@ fn next_place(gates: &[Gate], used: &[bool; 64], free: bool, next: Gate, from: u
     end
 }
 
-// true where the gate uses one of the wires
+// whether a wire of the gate has the remainder of one of these wires
 fn may_use(gate: Gate, used: &[bool; 64]) -> bool
     ensures { result ≡ false → (w : ℕ) → Touches gate w → slice_index_or used.now (w % 64) false ≡ false }
 {

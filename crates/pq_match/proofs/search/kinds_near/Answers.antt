@@ -1,4 +1,4 @@
-use Rattle.std.proofs.Common.{refl, arith}
+use Rattle.std.proofs.Common.{arith}
 use Rattle.pq_match.proofs.SearchNear.{near_grows, near_stops}
 use Rattle.pq_match.proofs.search.kinds_near.Goals as goal
 
