@@ -1,6 +1,7 @@
 -- Which texts are accepted, and what is written for them.
-use Rattle.std.specs.Prelude.{◌≡◌, ℕ, ◌+◌, ◌-◌, ◌*◌, ◌≤◌, Bool, false, List, length}
+use Rattle.std.specs.Prelude.{◌≡◌, ℕ, ◌+◌, ◌-◌, ◌*◌, ◌≤◌, false, List, length}
 use Rattle.pq_gate.specs.declared.gate.Gate.{Gate}
+use Rattle.pq_gate.specs.Circuit.{IsCircuit}
 use Rattle.pq_gate.specs.Matrix.{Same}
 use Rattle.pq_text.specs.Program.{ProgramView, places_of}
 use Rattle.pq_text.specs.Print.{print}
@@ -19,7 +20,7 @@ with_gates program gates = record program { gates = gates }
 abbrev pub options : Options
 options = record { drop_barriers = false }
 
--- what a loop that has no finger any more left, and its numbers
+-- the gates that a finished loop left, with its numbers
 abbrev pub total_of : Finished → Total
 total_of finished = record {
   gates = finished.gates.items;
@@ -28,11 +29,14 @@ total_of finished = record {
   phase = finished.phase;
 }
 
+-- Where the old gates are a circuit, so are the new ones, and the old ones' matrix is theirs turned by the phase.
+pub record KeepsMatrix (old new : List Gate) (phase : ℕ) : Type 0 where
+  pub same : (n : ℕ) → IsCircuit n old → Same n old new phase
+
 -- The text stands for a program, and the output is the canonical text of the same program with the gates that
 -- rounds leave of its own, under the built-in rules and with the window length Omega. The matrix of its own gates
--- is that of the gates that are left, turned by the phase of the rounds. No run of at most Omega neighbours among
--- these has a redex. And the oracle was called at most as often as there were first fingers and twice the removed
--- gates.
+-- is that of the gates that are left, turned by the phase of the rounds. No run of at most Omega neighbouring gates
+-- that are left has a redex. The calls of the oracle are at most the first fingers and twice the removed gates.
 pub record IsOptimised (omega : ℕ) (text output : List ℕ) : Type 0 where
   pub program : ProgramView
   pub read : Reads text options program
