@@ -4,6 +4,7 @@ set -eu
 top=$(cd "$(dirname "$0")/.." && pwd)
 program=$top/crates/popqc/out/popqc
 gates=${1:-1000000}
+omega=${2:-2}
 [ -x "$program" ] || { echo "build the program first: rt run in crates/popqc" >&2; exit 1; }
 text=$(mktemp)
 trap 'rm -f "$text"' EXIT
@@ -18,7 +19,7 @@ awk -v gates="$gates" 'BEGIN {
 }' > "$text"
 for _ in 1 2 3 4 5; do
   start=$(date +%s%N)
-  "$program" 2 < "$text" > /dev/null
+  "$program" "$omega" < "$text" > /dev/null
   end=$(date +%s%N)
-  echo "$gates gates in $(( (end - start) / 1000000 )) ms, $(( (end - start) / gates )) ns a gate"
+  echo "$gates gates with Omega $omega in $(( (end - start) / 1000000 )) ms, $(( (end - start) / gates )) ns a gate"
 done

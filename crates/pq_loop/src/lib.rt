@@ -7,6 +7,8 @@ mod looping;
 mod one_round;
 mod putting;
 mod segments;
+#[cfg(test)]
+mod tests;
 
 pub use laws::{opt_has_one_result, opt_is_local, rounds_have_one_result, rounds_keep_cover};
 pub use looping::{Finished, Loop};

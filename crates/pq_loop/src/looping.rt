@@ -8,6 +8,7 @@ ghost use Rattle.pq_loop.specs.Opt.{first_state, Local};
 ghost use Rattle.pq_loop.specs.Loops.{IsCovered};
 
 use crate::one_round::{Step, work_round};
+#[cfg(test)]
 use crate::segments::gaps_of;
 use pq_array::GateArray;
 use pq_finger::Fingers;
@@ -167,6 +168,7 @@ impl Loop {
     }
 
     /// The gaps of the fingers.
+    #[cfg(test)]
     pub(crate) fn gaps(&self, alloc: Global) -> Result<Vec<u64>, AllocError>
         ensures { IfOk result (λ gaps. gaps.items ≡ self.now.state.fingers) }
     {

@@ -94,6 +94,7 @@ fn moved_on(alloc: Global, array: &GateArray, fingers: Fingers) -> Result<Finger
 }
 
 /// The least live place from this one on, or the end.
+#[tactic(auto, using(crate::proofs::Moving::next_stands))]
 fn live_or_end(array: &GateArray, place: u64) -> u64
     ensures stands { IsTrue (stands array.now result) }
     ensures rank { rank array.now result ≡ rank array.now place }

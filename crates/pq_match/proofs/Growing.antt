@@ -146,6 +146,13 @@ nothing_fits {gates} {pattern} {places} {count} end next misfit = record {
   none = λ other full begins. misfit (fitting_same gates pattern other places count (λ s upto. begins s (omega arith)) (full.fitting count next));
 }
 
+-- nor where the gate at the next place is of another kind than the pattern's
+pub nothing_of_kind : {gates pattern : List Gate} {places : List ℕ} {count : ℕ} (end place : ℕ) → count < length pattern → AreEight places count → count < 8 →
+    (kind_of (gate_at gates place) ≡ kind_of (gate_at pattern count) → ⊥) → HasNoFull gates pattern end (set places count place) (count + 1)
+nothing_of_kind {gates} {pattern} {places} {count} end place next are room other_kind =
+    nothing_fits end next
+    (λ fits. other_kind (subst (λ (p : ℕ). kind_of (gate_at gates p) ≡ kind_of (gate_at pattern count)) (put_at places count place are.eight room) fits.kind))
+
 -- grown places that are all of the pattern's are the only ones that begin with them
 pub grown_is_full : {gates pattern : List Gate} {end : ℕ} {places : List ℕ} (count : ℕ) → count + 1 ≡ length pattern → IsGrown gates pattern end places (count + 1) →
     AreEight places (count + 1) → IsFirstFull gates pattern end places (count + 1) places

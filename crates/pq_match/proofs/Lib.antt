@@ -9,7 +9,10 @@ pub mod RewritingPlaces
 pub mod RewritingWires
 pub mod Growing
 pub mod GrowingWalk
+pub mod GrowingSkips
 pub mod SearchWires
+pub mod SearchTouches
+pub mod SearchNear
 pub mod SearchChoice
 pub mod SearchGates
 pub mod SearchPlaces

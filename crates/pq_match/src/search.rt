@@ -1,12 +1,14 @@
-ghost use Rattle.std.specs.Prelude.{◌≡◌, ℕ, ◌+◌, ◌<◌, ◌≤◌, ◌↔◌, IsTrue, true, false, length, slice_index, slice_set};
+ghost use Rattle.std.specs.Prelude.{◌≡◌, ℕ, ◌+◌, ◌%◌, ◌<◌, ◌≤◌, ◌↔◌, IsTrue, true, false, [], ◌∷◌, length, slice_index, slice_index_or, slice_set};
+ghost use Rattle.pq_gate.specs.Commuting.{Touches, Commutes};
 ghost use Rattle.pq_rules.specs.Kinds.{kind_of};
+ghost use Rattle.pq_match.specs.Redex.{gate_at};
 ghost use Rattle.pq_match.specs.Found.{FindsWithin};
 ghost use Rattle.pq_match.specs.Search.{IsAlike, AreAlike, IsFitting, IsNext, IsPassable, IsGrown, FindsFull, AreEight, FindsAmong, IsFrom, IsOfRow};
 
 use crate::redex::Redex;
 use crate::segment::Seg;
 use crate::wires::wires_of;
-use pq_gate::{Gate, commutes};
+use pq_gate::{Eighths, Gate, commutes};
 use pq_rules::Rules;
 
 /// The first redex of a segment: the least first place, then the least row, then the least places in
@@ -46,26 +48,68 @@ fn find_from(gates: &[Gate], rules: &Rules, start: u32, end: u32) -> Option<Rede
     requires end { end ≤ length gates.now }
     ensures { FindsAmong (IsFrom start end) rules.now gates.now result }
 {
+    let near = kinds_near(gates, start, end);
     for number in rules.rows_starting(gates[start as usize]) {
-        if let Some(redex) = find_row(gates, rules, *number, start, end) {
+        if let Some(redex) = find_row(gates, rules, *number, start, end, &near) {
             return Some(redex);
         }
     }
     None
 }
 
-// the first of these redexes that are of this row
-fn find_row(gates: &[Gate], rules: &Rules, number: u32, start: u32, end: u32) -> Option<Redex>
+// The kinds of the gates behind the start that share a wire with the gate there, up to the first that doesn't
+// commute with it. In a match that begins at the start, the next gate that shares a wire with the first is of
+// one of these kinds, so one pass rules out most rows.
+#[tactic(auto, using(crate::proofs::SearchNear::near_begins, crate::proofs::SearchNear::near_passes, crate::proofs::SearchNear::near_grows, crate::proofs::SearchNear::near_stops, crate::proofs::SearchNear::near_ends))]
+fn kinds_near(gates: &[Gate], start: u32, end: u32) -> [bool; 10]
     requires few { length gates.now ≤ 1048576 }
     requires start { start < end }
     requires end { end ≤ length gates.now }
+    ensures { (place w : ℕ) → IsNext gates.now (start ∷ []) 1 place → place < end
+        → Touches (gate_at gates.now start) w → Touches (gate_at gates.now place) w
+        → slice_index_or result (kind_of (gate_at gates.now place)) false ≡ true }
+{
+    let gate = gates[start as usize];
+    let mut near = [false; 10];
+    for place in start + 1..end {
+        let other = gates[place as usize];
+        if are_apart(gate, other) {
+            continue;
+        }
+        near[kind(other)] = true;
+        if !commutes(gate, other) {
+            return near;
+        }
+    }
+    near
+}
+
+// the first of these redexes that are of this row
+fn find_row(
+    gates: &[Gate],
+    rules: &Rules,
+    number: u32,
+    start: u32,
+    end: u32,
+    near: &[bool; 10],
+) -> Option<Redex>
+    requires few { length gates.now ≤ 1048576 }
+    requires start { start < end }
+    requires end { end ≤ length gates.now }
+    requires near { (place w : ℕ) → IsNext gates.now (start ∷ []) 1 place → place < end
+        → Touches (gate_at gates.now start) w → Touches (gate_at gates.now place) w
+        → slice_index_or near.now (kind_of (gate_at gates.now place)) false ≡ true }
     ensures { FindsAmong (IsOfRow number start end) rules.now gates.now result }
 {
     let Some(row) = rules.row(number) else {
         return None;
     };
     let pattern = row.pattern();
-    let Some(places) = extend_at(gates, pattern, end, [0; 8], 0, start) else {
+    let second = nearest_of(pattern);
+    if second < pattern.len() && !near[kind(pattern[second])] {
+        return None;
+    }
+    let Some(places) = extend_at(gates, pattern, end, &[0; 8], 0, start) else {
         return None;
     };
     Some(Redex {
@@ -75,6 +119,24 @@ fn find_row(gates: &[Gate], rules: &Rules, number: u32, start: u32, end: u32) ->
     })
 }
 
+// the number of the next gate that shares a wire with the pattern's first, or the length where there is none
+fn nearest_of(pattern: &[Gate]) -> usize
+    requires { 0 < length pattern.now }
+    ensures some { 0 < result }
+    ensures apart { (number w : ℕ) → 0 < number → number < result
+        → Touches (gate_at pattern.now 0) w → Touches (gate_at pattern.now number) w → ⊥ }
+    ensures near { result < length pattern.now
+        → ((w : ℕ) → Touches (gate_at pattern.now 0) w → Touches (gate_at pattern.now result) w → ⊥) → ⊥ }
+{
+    let first = pattern[0];
+    for number in 1..pattern.len() {
+        if !are_apart(first, pattern[number]) {
+            return number;
+        }
+    }
+    pattern.len()
+}
+
 // Chooses this place for the next gate of the pattern, and the least places for the others.
 #[cycle(growing)]
 #[tactic(auto, using(crate::proofs::Growing::nothing_fits))]
@@ -82,7 +144,7 @@ fn extend_at(
     gates: &[Gate],
     pattern: &[Gate],
     end: u32,
-    places: [u32; 8],
+    places: &[u32; 8],
     count: usize,
     place: u32,
 ) -> Option<[u32; 8]>
@@ -91,12 +153,12 @@ fn extend_at(
     requires end { end ≤ length gates.now }
     requires next { count < length pattern.now }
     requires place { place < end }
-    requires grown { IsGrown gates.now pattern.now end places count }
-    requires behind { IsNext gates.now places count place }
-    requires eight { AreEight places count }
-    ensures { FindsFull gates.now pattern.now end (slice_set places count place) (count + 1) result }
+    requires grown { IsGrown gates.now pattern.now end places.now count }
+    requires behind { IsNext gates.now places.now count place }
+    requires eight { AreEight places.now count }
+    ensures { FindsFull gates.now pattern.now end (slice_set places.now count place) (count + 1) result }
 {
-    let mut grown = places;
+    let mut grown = *places;
     grown[count] = place;
     if !fits(gates, pattern, &grown, count) {
         return None;
@@ -104,17 +166,44 @@ fn extend_at(
     if count + 1 == pattern.len() {
         return Some(grown);
     }
-    extend(gates, pattern, end, grown, count + 1)
+    extend(gates, pattern, end, &grown, count + 1)
+}
+
+// The same, where the kind of the gate is looked at first.
+#[cycle(growing)]
+#[tactic(auto, using(crate::proofs::Growing::nothing_of_kind))]
+fn extend_by_kind(
+    gates: &[Gate],
+    pattern: &[Gate],
+    end: u32,
+    places: &[u32; 8],
+    count: usize,
+    place: u32,
+) -> Option<[u32; 8]>
+    requires few { length gates.now ≤ 1048576 }
+    requires short { length pattern.now ≤ 8 }
+    requires end { end ≤ length gates.now }
+    requires next { count < length pattern.now }
+    requires place { place < end }
+    requires grown { IsGrown gates.now pattern.now end places.now count }
+    requires behind { IsNext gates.now places.now count place }
+    requires eight { AreEight places.now count }
+    ensures { FindsFull gates.now pattern.now end (slice_set places.now count place) (count + 1) result }
+{
+    if !are_of_one_kind(gates[place as usize], pattern[count]) {
+        return None;
+    }
+    extend_at(gates, pattern, end, places, count, place)
 }
 
 // Chooses the least places for the gates of the pattern that have none yet.
 #[cycle(growing)]
-#[tactic(auto, using(crate::proofs::GrowingWalk::walk_starts, crate::proofs::GrowingWalk::walk_goes_on, crate::proofs::GrowingWalk::walk_is_stuck, crate::proofs::GrowingWalk::walk_ends))]
+#[tactic(auto, using(crate::proofs::GrowingWalk::walk_is_stuck, crate::proofs::GrowingWalk::walk_ends))]
 fn extend(
     gates: &[Gate],
     pattern: &[Gate],
     end: u32,
-    places: [u32; 8],
+    places: &[u32; 8],
     count: usize,
 ) -> Option<[u32; 8]>
     requires few { length gates.now ≤ 1048576 }
@@ -122,19 +211,94 @@ fn extend(
     requires end { end ≤ length gates.now }
     requires next { count < length pattern.now }
     requires some { 0 < count }
-    requires grown { IsGrown gates.now pattern.now end places count }
-    requires eight { AreEight places count }
-    ensures { FindsFull gates.now pattern.now end places count result }
+    requires grown { IsGrown gates.now pattern.now end places.now count }
+    requires eight { AreEight places.now count }
+    ensures { FindsFull gates.now pattern.now end places.now count result }
 {
-    for place in places[count - 1] + 1..end {
-        if let Some(found) = extend_at(gates, pattern, end, places, count, place) {
+    let used = wires_used(gates, places, count);
+    let free = stands_apart(pattern, count);
+    let mut place = next_place(
+        gates,
+        &used,
+        free,
+        pattern[count],
+        places[count - 1] + 1,
+        end,
+    );
+    'walk: while place < end {
+        if let Some(found) = extend_by_kind(gates, pattern, end, places, count, place) {
             return Some(found);
         }
-        if !is_passable(gates, &places, count, place) {
+        if !is_passable(gates, places, count, place) {
             return None;
         }
+        place = next_place(gates, &used, free, pattern[count], place + 1, end);
     }
     None
+}
+
+// The wires of the chosen gates, each by its remainder by 64, which other wires may have too.
+fn wires_used(gates: &[Gate], places: &[u32; 8], count: usize) -> [bool; 64]
+    requires few { count ≤ 8 }
+    requires inside { (s : ℕ) → s < count → slice_index places.now s < length gates.now }
+    ensures { (s w : ℕ) → s < count → Touches (gate_at gates.now (slice_index places.now s)) w → slice_index_or result (w % 64) false ≡ true }
+{
+    let mut used = [false; 64];
+    for chosen in 0..count {
+        use_wires(&mut used, gates[places[chosen] as usize]);
+    }
+    used
+}
+
+// adds the wires of the gate
+fn use_wires(used: &mut [bool; 64], gate: Gate)
+    ensures own { (w : ℕ) → Touches gate w → slice_index_or used.new (w % 64) false ≡ true }
+    ensures others { (k : ℕ) → slice_index_or used.old k false ≡ true → slice_index_or used.new k false ≡ true }
+{
+    let (wire, other) = wires_of(gate);
+    used[wire as usize % 64] = true;
+    used[other as usize % 64] = true;
+}
+
+// whether the gate shares no wire with those before it
+fn stands_apart(pattern: &[Gate], number: usize) -> bool
+    requires { number < length pattern.now }
+    ensures { IsTrue result ↔ ((before w : ℕ) → before < number → Touches (gate_at pattern.now before) w → Touches (gate_at pattern.now number) w → ⊥) }
+{
+    for before in 0..number {
+        if !are_apart(pattern[before], pattern[number]) {
+            return false;
+        }
+    }
+    true
+}
+
+// The next place where the walk has to look: the gate there may use a wire of the chosen gates, or is of the
+// kind of the next gate, where that is free to use other wires. All places before it are passed over.
+fn next_place(gates: &[Gate], used: &[bool; 64], free: bool, next: Gate, from: u32, end: u32) -> u32
+    requires few { length gates.now ≤ 1048576 }
+    requires from { from ≤ end }
+    requires end { end ≤ length gates.now }
+    ensures behind { from ≤ result }
+    ensures within { result ≤ end }
+    ensures unused { (place w : ℕ) → from ≤ place → place < result → Touches (gate_at gates.now place) w → slice_index_or used.now (w % 64) false ≡ false }
+    ensures kinds { (place : ℕ) → from ≤ place → place < result → free ≡ true → kind_of (gate_at gates.now place) ≡ kind_of next → ⊥ }
+{
+    for place in from..end {
+        let gate = gates[place as usize];
+        if may_use(gate, used) || free && are_of_one_kind(gate, next) {
+            return place;
+        }
+    }
+    end
+}
+
+// whether a wire of the gate has the remainder of one of these wires
+fn may_use(gate: Gate, used: &[bool; 64]) -> bool
+    ensures { result ≡ false → (w : ℕ) → Touches gate w → slice_index_or used.now (w % 64) false ≡ false }
+{
+    let (wire, other) = wires_of(gate);
+    used[wire as usize % 64] || used[other as usize % 64]
 }
 
 // whether the gate at the last of the places fits to the pattern, and to the gates before it
@@ -163,12 +327,37 @@ fn is_passable(gates: &[Gate], places: &[u32; 8], count: usize, place: u32) -> b
     requires inside { (s : ℕ) → s < count → slice_index places.now s < length gates.now }
     ensures { IsTrue result ↔ IsPassable gates.now places.now count place }
 {
+    let gate = gates[place as usize];
     for s in 0..count {
-        if !commutes(gates[places[s] as usize], gates[place as usize]) {
+        if !are_commuting(gates[places[s] as usize], gate) {
             return false;
         }
     }
     true
+}
+
+// whether the gates commute; most share no wire, and that is seen first
+fn are_commuting(first: Gate, second: Gate) -> bool
+    ensures { IsTrue result ↔ Commutes first second }
+{
+    are_apart(first, second) || commutes(first, second)
+}
+
+// whether the gates share no wire
+#[tactic(auto, using(crate::proofs::SearchTouches::apart_by_both))]
+fn are_apart(first: Gate, second: Gate) -> bool
+    ensures { IsTrue result ↔ ((w : ℕ) → Touches first w → Touches second w → ⊥) }
+{
+    let (wire, other) = wires_of(first);
+    !touches(second, wire) && (other == wire || !touches(second, other))
+}
+
+// whether the wire is one of the gate's wires
+fn touches(gate: Gate, wire: u32) -> bool
+    ensures { IsTrue result ↔ Touches gate wire }
+{
+    let (own, other) = wires_of(gate);
+    wire == own || wire == other
 }
 
 // whether the wires of two gates are equal exactly where those of the pattern's gates are
@@ -187,6 +376,25 @@ fn is_alike(of_wire: u32, of_gate: Gate, wire: u32, gate: Gate) -> bool
     let (p, q) = wires_of(of_gate);
     let (v, w) = wires_of(gate);
     (wire == v) == (of_wire == p) && (wire == w) == (of_wire == q)
+}
+
+// the kind of a gate, as a number
+fn kind(gate: Gate) -> usize
+    ensures kind { result ≡ kind_of gate }
+    ensures few { result < 10 }
+{
+    match gate {
+        Gate::H { .. } => 0,
+        Gate::X { .. } => 1,
+        Gate::Cx { .. } => 2,
+        Gate::Phase { eighths, .. } => match eighths {
+            Eighths::T => 3,
+            Eighths::S => 4,
+            Eighths::Z => 6,
+            Eighths::Sdg => 8,
+            Eighths::Tdg => 9,
+        },
+    }
 }
 
 // whether the gates are of one kind: phases, by the same eighths

@@ -11,7 +11,6 @@ use Rattle.pq_read.specs.declared.program.Program.{Program}
 use Rattle.pq_read.specs.Environment.{view}
 use Rattle.pq_read.specs.Reads.{Reads}
 use Rattle.pq_rules.specs.Row.{RowView, IsSound}
-use Rattle.pq_oracle.specs.Roomed.{Roomed}
 use Rattle.pq_rules.specs.Table.{builtin_rows}
 use Rattle.pq_loop.specs.declared.looping.Finished.{Finished}
 use Rattle.pq_loop.specs.Gaps.{first_fingers}
@@ -19,14 +18,14 @@ use Rattle.pq_loop.specs.Loops.{LoopView}
 use Rattle.pq_loop.specs.Opt.{Total, Opt, Local}
 use Rattle.pq_loop.proofs.Ending.{opt_local, opt_same, opt_bound}
 use Rattle.pq_loop.proofs.Falling.{round_falls}
-use Rattle.pq_top.specs.Optimised.{options, with_gates, total_of, IsOptimised}
+use Rattle.pq_top.specs.Optimised.{options, with_gates, total_of, KeepsMatrix, IsOptimised}
 use Rattle.pq_top.proofs.Leading.{IsOnItsWay, led_to_end}
 use Rattle.pq_top.proofs.Shortening.{opt_shorter}
 
 -- What holds of all that rounds from the first fingers leave.
 pub record IsLeft (w : ℕ) (gates : List Gate) (total : Total) : Type 0 where
   pub opt : Opt builtin_rows w gates total
-  pub same : (n : ℕ) → IsCircuit n gates → Same n gates total.gates total.phase
+  pub same : KeepsMatrix gates total.gates total.phase
   pub local : Local builtin_rows w total.gates
   pub shorter : length total.gates ≤ length gates
   pub bound : total.calls ≤ length (first_fingers (length gates) w) + 2 * (length gates - length total.gates)
@@ -36,7 +35,7 @@ left_by_opt w gates total some sound opt =
     let shorter : length total.gates ≤ length gates = opt_shorter builtin_rows w gates total some sound opt in
     record {
       opt = opt;
-      same = λ n circuit. opt_same builtin_rows w gates total n some sound opt circuit;
+      same = record { same = λ n circuit. opt_same builtin_rows w gates total n some sound opt circuit };
       local = opt_local builtin_rows w gates total some sound opt;
       shorter = shorter;
       bound = omega (arith, shorter, opt_bound round_falls builtin_rows w gates total some sound opt);
@@ -56,41 +55,41 @@ left_at_end (Ok finished) rules w gates loop least rules_are sound way none gate
 
 -- `given` are the gates as they were handed on
 same_given : (p : ProgramView) (given gates : List Gate) (phase : ℕ) → given ≡ p.gates → WellFormed p →
-    ((n : ℕ) → IsCircuit n given → Same n given gates phase) → Same (places_of p.qregs) given gates phase
-same_given p given gates phase is formed same = same (places_of p.qregs) (subst (IsCircuit (places_of p.qregs)) (sym is) formed.circuit)
+    KeepsMatrix given gates phase → Same (places_of p.qregs) given gates phase
+same_given p given gates phase is formed keeps = keeps.same (places_of p.qregs) (subst (IsCircuit (places_of p.qregs)) (sym is) formed.circuit)
 
 still_well_formed : (p : ProgramView) (given gates : List Gate) (phase : ℕ) → given ≡ p.gates → WellFormed p → length gates ≤ length given →
-    ((n : ℕ) → IsCircuit n given → Same n given gates phase) → WellFormed (with_gates p gates)
-still_well_formed p given gates phase is formed shorter same = record {
+    KeepsMatrix given gates phase → WellFormed (with_gates p gates)
+still_well_formed p given gates phase is formed shorter keeps = record {
   registers = formed.registers;
   names = formed.names;
   qubits = formed.qubits;
   bits = formed.bits;
-  circuit = (same_given p given gates phase is formed same).right;
+  circuit = (same_given p given gates phase is formed keeps).right;
   gates = omega (arith, shorter, ap length is, formed.gates);
   tail = formed.tail;
   entries = formed.entries;
 }
 
 -- the program with the gates that are left is well formed
-pub formed_with : (p : Program) (given : List Gate) (gates : Roomed Gate) (phase : ℕ) → given ≡ p.gates.items → WellFormed (view p) →
-    length gates.items ≤ length given → ((n : ℕ) → IsCircuit n given → Same n given gates.items phase) →
-    WellFormed (view (record { qregs = p.qregs; cregs = p.cregs; gates = gates; tail = p.tail }))
-formed_with p given gates phase is formed shorter same = still_well_formed (view p) given gates.items phase is formed shorter same
+pub formed_with : (p : Program) (given : List Gate) (finished : Finished) → given ≡ p.gates.items → WellFormed (view p) →
+    length finished.gates.items ≤ length given → KeepsMatrix given finished.gates.items finished.phase →
+    WellFormed (view (record { qregs = p.qregs; cregs = p.cregs; gates = finished.gates; tail = p.tail }))
+formed_with p given finished is formed shorter keeps = still_well_formed (view p) given finished.gates.items finished.phase is formed shorter keeps
 
 -- and its text is the optimised one
 pub optimised_by : (w : ℕ) (text output : List ℕ) (p : Program) (given : List Gate) (finished : Finished) → given ≡ p.gates.items → WellFormed (view p) →
     Reads text options (view p) → Opt builtin_rows w given (total_of finished) →
-    ((n : ℕ) → IsCircuit n given → Same n given finished.gates.items finished.phase) → Local builtin_rows w finished.gates.items →
+    KeepsMatrix given finished.gates.items finished.phase → Local builtin_rows w finished.gates.items →
     finished.calls ≤ length (first_fingers (length given) w) + 2 * (length given - length finished.gates.items) →
     output ≡ print (view (record { qregs = p.qregs; cregs = p.cregs; gates = finished.gates; tail = p.tail })) → IsOptimised w text output
-optimised_by w text output p given finished is formed read opt same local bound written = record {
+optimised_by w text output p given finished is formed read opt keeps local bound written = record {
   program = view p;
   read = read;
   total = total_of finished;
   opt = subst (λ (gates : List Gate). Opt builtin_rows w gates (total_of finished)) is opt;
   same = subst (λ (gates : List Gate). Same (places_of (view p).qregs) gates finished.gates.items finished.phase) is
-      (same_given (view p) given finished.gates.items finished.phase is formed same);
+      (same_given (view p) given finished.gates.items finished.phase is formed keeps);
   local = local;
   bound = subst (λ (gates : List Gate). finished.calls ≤ length (first_fingers (length gates) w) + 2 * (length gates - length finished.gates.items)) is bound;
   written = written;

@@ -2,6 +2,7 @@
 use Rattle.std.specs.Prelude.{◌≡◌, ℕ, ◌+◌, ◌-◌, ◌*◌, ◌≤◌, ◌⊎◌, Bool, List, ◌++◌, length, map, codes, decimal}
 use Rattle.std.specs.List.{join_with_byte}
 use Rattle.pq_gate.specs.declared.gate.Gate.{Gate}
+use Rattle.pq_gate.specs.Circuit.{IsCircuit}
 use Rattle.pq_gate.specs.Matrix.{Same}
 use Rattle.pq_text.specs.Program.{ProgramView, places_of}
 use Rattle.pq_text.specs.Print.{print}
@@ -33,7 +34,7 @@ pub record IsAccepted (options : Options) (text : List ℕ) : Type 0 where
 abbrev pub with_gates : ProgramView → List Gate → ProgramView
 with_gates program gates = record program { gates = gates }
 
--- what a loop that has no finger any more left, and its numbers
+-- the gates that a finished loop left, with its numbers
 abbrev pub total_of : Finished → Total
 total_of finished = record {
   gates = finished.gates.items;
@@ -42,10 +43,13 @@ total_of finished = record {
   phase = finished.phase;
 }
 
+-- Where the old gates are a circuit, so are the new ones, and the old ones' matrix is theirs turned by the phase.
+pub record KeepsMatrix (old new : List Gate) (phase : ℕ) : Type 0 where
+  pub same : (n : ℕ) → IsCircuit n old → Same n old new phase
+
 -- What rounds leave of a program's gates, under the built-in rules and with the window length Omega. The matrix of
--- its own gates is that of the gates that are left, turned by the phase. No run of at most Omega neighbours among
--- these has a redex. And the oracle was called at most as often as there were first fingers and twice the removed
--- gates.
+-- its own gates is that of the gates that are left, turned by the phase. No run of at most Omega neighbouring
+-- gates that are left has a redex. The calls of the oracle are at most the first fingers and twice the removed gates.
 pub record IsOptimised (omega : ℕ) (program : ProgramView) (total : Total) : Type 0 where
   pub opt : Opt builtin_rows omega program.gates total
   pub same : Same (places_of program.qregs) program.gates total.gates total.phase

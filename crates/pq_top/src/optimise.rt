@@ -1,11 +1,9 @@
-ghost use Rattle.std.specs.Prelude.{◌≡◌, ℕ, ◌+◌, ◌-◌, ◌*◌, ◌≤◌, length, IfOk, IfErr};
-ghost use Rattle.pq_gate.specs.Circuit.{IsCircuit};
-ghost use Rattle.pq_gate.specs.Matrix.{Same};
+ghost use Rattle.std.specs.Prelude.{◌≡◌, ◌+◌, ◌-◌, ◌*◌, ◌≤◌, length, IfOk, IfErr};
 ghost use Rattle.pq_loop.specs.Gaps.{first_fingers};
 ghost use Rattle.pq_loop.specs.Opt.{Opt, Local};
 ghost use Rattle.pq_read.specs.Reads.{IsRefusedFor};
 ghost use Rattle.pq_rules.specs.Table.{builtin_rows};
-ghost use Rattle.pq_top.specs.Outputs.{input_limit, total_of, IsOptText, IsBenchText};
+ghost use Rattle.pq_top.specs.Outputs.{input_limit, total_of, KeepsMatrix, IsOptText, IsBenchText};
 ghost use Rattle.pq_generate.specs.Generated.{generated};
 ghost use Rattle.pq_text.specs.Print.{print};
 
@@ -101,7 +99,7 @@ fn run_rounds(alloc: Global, gates: &[Gate], omega: u32) -> Result<Finished, All
     requires most { omega ≤ 1024 }
     requires few { length gates.now ≤ 1048576 }
     ensures opt { IfOk result (λ finished. Opt builtin_rows omega gates.now (total_of finished)) }
-    ensures same { IfOk result (λ finished. (n : ℕ) → IsCircuit n gates.now → Same n gates.now finished.gates.items finished.phase) }
+    ensures same { IfOk result (λ finished. KeepsMatrix gates.now finished.gates.items finished.phase) }
     ensures local { IfOk result (λ finished. Local builtin_rows omega finished.gates.items) }
     ensures shorter { IfOk result (λ finished. length finished.gates.items ≤ length gates.now) }
     ensures bound { IfOk result (λ finished. finished.calls
@@ -109,6 +107,8 @@ fn run_rounds(alloc: Global, gates: &[Gate], omega: u32) -> Result<Finished, All
     ensures first_fingers { IfOk result (λ finished. finished.first_fingers ≡ length (first_fingers (length gates.now) omega)) }
 {
     let rules = Rules::builtin(alloc)?;
+
+    // its contract says that the rows are sound
     let _count = rules.count();
     let mut looping = Loop::open(alloc, gates, omega, rules)?;
     'rounds: while !looping.is_done() {

@@ -1,0 +1,137 @@
+ghost use Rattle.std.specs.Prelude.{◌≤◌, length};
+
+use crate::{Finished, Loop, Step};
+use pq_gate::{Eighths, Gate};
+use pq_rules::Rules;
+use std::alloc::AllocError;
+use std::process::Abort;
+use std::test::Fail;
+
+fn h(wire: u32) -> Gate {
+    Gate::H { wire }
+}
+
+fn x(wire: u32) -> Gate {
+    Gate::X { wire }
+}
+
+fn phase(eighths: Eighths, wire: u32) -> Gate {
+    Gate::Phase { eighths, wire }
+}
+
+// The numbers of a round.
+fn numbers(selected: u64, improved: u64, removed: u64, phase: u8) -> Step {
+    Step {
+        selected,
+        improved,
+        removed,
+        phase,
+    }
+}
+
+fn has_fingers_at(
+    rt: &(impl Abort + AllocGlobal),
+    state: &Loop,
+    want: &[u64],
+) -> Result<(), AllocError> {
+    let gaps = state.gaps(rt.alloc())?;
+    assert!(rt; gaps.as_slice() == want, "{gaps:?}, but wanted {want:?}");
+    assert_eq!(rt; state.fingers_left(), want.len() as u64);
+    Ok(())
+}
+
+// The loop over these gates under the built-in rules. Its first fingers are wanted at these gaps.
+fn opened(
+    rt: &(impl Abort + AllocGlobal),
+    gates: &[Gate],
+    omega: u32,
+    want: &[u64],
+) -> Result<Loop, AllocError>
+    requires few { length gates.now ≤ 16 }
+    requires least { 2 ≤ omega }
+    requires most { omega ≤ 1024 }
+{
+    let rules = Rules::builtin(rt.alloc())?;
+    let made = Loop::open(rt.alloc(), gates, omega, rules)?;
+    has_fingers_at(rt, &made, want)?;
+    Ok(made)
+}
+
+// Makes a round. These numbers are wanted, and these gaps of the fingers after it.
+fn next(
+    rt: &(impl Abort + AllocGlobal),
+    before: Loop,
+    want: Step,
+    gaps: &[u64],
+) -> Result<Loop, AllocError> {
+    assert!(rt; !before.is_done());
+    let (after, step) = before.round(rt.alloc())?;
+    assert_eq!(rt; step, want);
+    has_fingers_at(rt, &after, gaps)?;
+    Ok(after)
+}
+
+// Ends the loop, where these gates are wanted to be left.
+fn end(
+    rt: &(impl Abort + AllocGlobal),
+    last: Loop,
+    gates: &[Gate],
+) -> Result<Finished, AllocError> {
+    assert!(rt; last.is_done());
+    let left = last.finish(rt.alloc())?;
+    assert!(rt; left.gates.as_slice() == gates, "{gates:?}");
+    Ok(left)
+}
+
+fn counts(rt: &impl Abort, left: &Finished, rounds: u64, calls: u64, phase: u8, fingers: u64) {
+    assert_eq!(rt; left.rounds, rounds);
+    assert_eq!(rt; left.calls, calls);
+    assert_eq!(rt; left.phase, phase);
+    assert_eq!(rt; left.first_fingers, fingers);
+}
+
+#[test]
+fn eight_gates_are_done_after_three_rounds(rt: HostRuntime) -> Result<(), Fail> {
+    let (t1, s1) = (phase(Eighths::T, 1), phase(Eighths::S, 1));
+    let (t2, s2) = (phase(Eighths::T, 2), phase(Eighths::S, 2));
+    let gates = [h(0), h(0), t1, s1, t2, s2, h(3), h(3)];
+    let state = opened(&rt, &gates, 2, &[0, 2, 4, 6])?;
+    let state = next(&rt, state, numbers(2, 1, 2, 0), &[0, 4])?;
+    let state = next(&rt, state, numbers(2, 1, 2, 0), &[2])?;
+    let state = next(&rt, state, numbers(1, 0, 0, 0), &[])?;
+    let left = end(&rt, state, &[t1, s1, t2, s2])?;
+    counts(&rt, &left, 3, 5, 0, 4);
+    Ok(())
+}
+
+#[test]
+fn a_finger_at_the_end_is_not_inside_an_improved_segment(rt: HostRuntime) -> Result<(), Fail> {
+    let s = phase(Eighths::S, 0);
+    let z = phase(Eighths::Z, 0);
+    let gates = [s, h(0), z, z, s, h(0), x(0), z, x(0), z];
+    let state = opened(&rt, &gates, 2, &[0, 2, 4, 6, 8])?;
+    let state = next(&rt, state, numbers(3, 2, 6, 4), &[2, 4])?;
+    let state = next(&rt, state, numbers(1, 1, 2, 1), &[2])?;
+    let state = next(&rt, state, numbers(1, 0, 0, 0), &[])?;
+    let left = end(&rt, state, &[h(0), phase(Eighths::Sdg, 0)])?;
+    counts(&rt, &left, 3, 5, 5, 5);
+    Ok(())
+}
+
+#[test]
+fn no_gate_needs_no_round(rt: HostRuntime) -> Result<(), Fail> {
+    let state = opened(&rt, &[], 2, &[])?;
+    let left = end(&rt, state, &[])?;
+    counts(&rt, &left, 0, 0, 0, 0);
+    Ok(())
+}
+
+#[test]
+fn rounds_tell_their_phase(rt: HostRuntime) -> Result<(), Fail> {
+    let gates = [x(0), phase(Eighths::T, 0), x(0)];
+    let state = opened(&rt, &gates, 4, &[0])?;
+    let state = next(&rt, state, numbers(1, 1, 2, 1), &[])?;
+    let left = end(&rt, state, &[phase(Eighths::Tdg, 0)])?;
+    counts(&rt, &left, 1, 1, 1, 1);
+    Ok(())
+}

@@ -1,0 +1,60 @@
+-- The places that the walk leaves out: the gates there use no wire of the chosen ones, and the next gate can't stand there.
+use Rattle.std.proofs.Common.{◌≡◌, ℕ, ◌%◌, ◌<◌, ◌≤◌, Bool, true, false, List, length, get_or, refl, sym, subst, ◌∙◌, arith, inl, inr, ◌⊎◌}
+use Rattle.std.proofs.lemmas.Bool.{cases_order}
+use Rattle.pq_gate.specs.declared.gate.Gate.{Gate}
+use Rattle.pq_gate.specs.Commuting.{Touches, Commutes}
+use Rattle.pq_rules.specs.Kinds.{kind_of}
+use Rattle.pq_match.specs.Redex.{gate_at}
+use Rattle.pq_match.specs.Search.{IsPassed, IsFull, Begins}
+use Rattle.pq_match.proofs.GrowingWalk.{IsWalked}
+use Rattle.pq_match.proofs.SearchTouches.{commute_apart, share_alike}
+
+-- The gates from a place up to another use no wire of those in use, and aren't of the kind of a gate that may stand anywhere.
+pub record AreSkipped (gates : List Gate) (used : List Bool) (free : Bool) (next : Gate) (from place : ℕ) : Type 0 where
+  pub unused : (p w : ℕ) → from ≤ p → p < place → Touches (gate_at gates p) w → get_or used (w % 64) false ≡ false
+  pub kinds : (p : ℕ) → from ≤ p → p < place → free ≡ true → kind_of (gate_at gates p) ≡ kind_of next → ⊥
+
+-- Past such places the walk goes on as if it had looked at each of them.
+pub walk_skips : (gates pattern : List Gate) (end : ℕ) (places : List ℕ) (count place next : ℕ) (used : List Bool) (free : Bool) →
+    IsWalked gates pattern end places count place → count < length pattern → place ≤ next →
+    ((s w : ℕ) → s < count → Touches (gate_at gates (get_or places s 0)) w → get_or used (w % 64) false ≡ true) →
+    (free ≡ false → ((before w : ℕ) → before < count → Touches (gate_at pattern before) w → Touches (gate_at pattern count) w → ⊥) → ⊥) →
+    ((p w : ℕ) → place ≤ p → p < next → Touches (gate_at gates p) w → get_or used (w % 64) false ≡ false) →
+    ((p : ℕ) → place ≤ p → p < next → free ≡ true → kind_of (gate_at gates p) ≡ kind_of (gate_at pattern count) → ⊥) →
+    IsWalked gates pattern end places count next
+walk_skips gates pattern end places count place next used free walked more upto are_used bound unused other_kind = record {
+  next = record {
+    above = λ s below. (let low : get_or places s 0 < place = walked.next.above s below in omega arith);
+    clear = λ s p below passed behind less. clear s p below passed behind less (cases_order p place);
+  };
+  none = λ other full begins. none other full begins (cases_order (get_or other count 0) next);
+}
+  where
+    apart : (p : ℕ) → place ≤ p → p < next → (s w : ℕ) → s < count → Touches (gate_at gates (get_or places s 0)) w → Touches (gate_at gates p) w → ⊥
+    apart p from less s w below uses_chosen uses =
+        let yes : get_or used (w % 64) false ≡ true = are_used s w below uses_chosen in
+        let no : get_or used (w % 64) false ≡ false = unused p w from less uses in
+        let clash : true ≡ false = sym yes ∙ no in absurd (cc)
+
+    clear : (s p : ℕ) → s < count → IsPassed places count p → get_or places s 0 < p → p < next → (p ≡ place) ⊎ ((p < place) ⊎ (place < p)) →
+        Commutes (gate_at gates (get_or places s 0)) (gate_at gates p)
+    clear s p below passed behind less (inl same) =
+        commute_apart (gate_at gates (get_or places s 0)) (gate_at gates p) (λ w. apart p (omega arith) less s w below)
+    clear s p below passed behind less (inr (inl lower)) = walked.next.clear s p below passed behind lower
+    clear s p below passed behind less (inr (inr higher)) =
+        commute_apart (gate_at gates (get_or places s 0)) (gate_at gates p) (λ w. apart p (omega arith) less s w below)
+
+    never : (other : List ℕ) → IsFull gates pattern end other → Begins places count other → get_or other count 0 < next → (b : Bool) → free ≡ b → ⊥
+    never other full begins less true is =
+        other_kind (get_or other count 0) (walked.none other full begins) less is (full.fitting count more).kind
+    never other full begins less false is = bound is (λ before w below uses_before uses.
+        (let shared = share_alike (gate_at pattern before) (gate_at pattern count) (gate_at gates (get_or other before 0)) (gate_at gates (get_or other count 0))
+        ((full.fitting count more).wires before (omega arith)) w uses_before uses in
+        apart (get_or other count 0) (walked.none other full begins) less before shared.0 below
+        (subst (λ (p : ℕ). Touches (gate_at gates p) shared.0) (begins before below) shared.1) shared.2))
+
+    none : (other : List ℕ) → IsFull gates pattern end other → Begins places count other →
+        (get_or other count 0 ≡ next) ⊎ ((get_or other count 0 < next) ⊎ (next < get_or other count 0)) → next ≤ get_or other count 0
+    none other full begins (inl same) = omega arith
+    none other full begins (inr (inl less)) = absurd (never other full begins less free refl)
+    none other full begins (inr (inr behind)) = omega arith

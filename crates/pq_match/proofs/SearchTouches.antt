@@ -1,0 +1,52 @@
+-- The wires that a gate touches are its first and its second.
+use Rattle.std.proofs.Common.{◌≡◌, ℕ, Bool, true, false, inl, inr, refl, sym, subst, ◌∙◌}
+use Rattle.pq_gate.specs.declared.gate.Gate.{Gate}
+use Rattle.pq_gate.specs.declared.gate.Gate.TheVariants.{H, X, Phase, Cx}
+use Rattle.pq_gate.specs.Commuting.{Touches, Commutes}
+use Rattle.pq_match.specs.Wires.{wire_of}
+use Rattle.pq_match.specs.Search.{AreAlike}
+
+-- which of the gate's wires this one is
+pub touched : (gate : Gate) (w : ℕ) → Touches gate w → (one : Bool) × (w ≡ wire_of one gate)
+touched (H wire) w is = (false, is)
+touched (X wire) w is = (false, is)
+touched (Phase eighths wire) w is = (false, is)
+touched (Cx control target) w (inl is) = (false, is)
+touched (Cx control target) w (inr is) = (true, is)
+
+pub touching : (gate : Gate) (one : Bool) → Touches gate (wire_of one gate)
+touching (H wire) one = refl
+touching (X wire) one = refl
+touching (Phase eighths wire) one = refl
+touching (Cx control target) false = inl refl
+touching (Cx control target) true = inr refl
+
+-- gates that share no wire commute
+pub commute_apart : (first second : Gate) → ((w : ℕ) → Touches first w → Touches second w → ⊥) → Commutes first second
+commute_apart first second apart w uses_first uses_second = absurd (apart w uses_first uses_second)
+
+-- Where another gate touches neither wire of the first, they share none.
+pub apart_by_both : (first second : Gate) {wire other : ℕ} → wire ≡ wire_of false first → other ≡ wire_of true first →
+    (Touches second wire → ⊥) → (Touches second other → ⊥) → (w : ℕ) → Touches first w → Touches second w → ⊥
+apart_by_both first second wire_is other_is near far w uses_first uses_second = by (touched first w uses_first)
+  where
+    by : (one : Bool) × (w ≡ wire_of one first) → ⊥
+    by (false, is) = near (subst (Touches second) (is ∙ sym wire_is) uses_second)
+    by (true, is) = far (subst (Touches second) (is ∙ sym other_is) uses_second)
+
+-- Gates that are alike share a wire exactly where the pattern's gates do.
+pub share_alike : (of_first of_second first second : Gate) → AreAlike of_first of_second first second → (w : ℕ) → Touches of_first w → Touches of_second w →
+    (v : ℕ) × Touches first v × Touches second v
+share_alike of_first of_second first second alike w uses_first uses_second =
+    let one = touched of_first w uses_first in
+    let other = touched of_second w uses_second in
+    let same : wire_of one.0 first ≡ wire_of other.0 second = (alike one.0 other.0).1 (sym one.1 ∙ other.1) in
+    (wire_of one.0 first, touching first one.0, subst (Touches second) (sym same) (touching second other.0))
+
+pub share_back : (of_first of_second first second : Gate) → AreAlike of_first of_second first second → (w : ℕ) → Touches first w → Touches second w →
+    (v : ℕ) × Touches of_first v × Touches of_second v
+share_back of_first of_second first second alike w uses_first uses_second =
+    let one = touched first w uses_first in
+    let other = touched second w uses_second in
+    let same : wire_of one.0 of_first ≡ wire_of other.0 of_second = (alike one.0 other.0).0 (sym one.1 ∙ other.1) in
+    (wire_of one.0 of_first, touching of_first one.0, subst (Touches of_second) (sym same) (touching of_second other.0))
