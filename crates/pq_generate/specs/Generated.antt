@@ -16,14 +16,15 @@ cx_of n number = if n == 1 then H 0 else Cx (number % n) (target_of n (number % 
 
 -- the gate of this kind, 0 to 7, on n qubits, whose wires are taken by the number
 abbrev pub gate_of : ℕ → ℕ → ℕ → Gate
-gate_of 0 n number = H (number % n)
-gate_of 1 n number = X (number % n)
-gate_of 2 n number = Phase Z (number % n)
-gate_of 3 n number = Phase S (number % n)
-gate_of 4 n number = Phase Sdg (number % n)
-gate_of 5 n number = Phase T (number % n)
-gate_of 6 n number = Phase Tdg (number % n)
-gate_of kind n number = cx_of n number
+gate_of kind n number =
+    if kind == 0 then H (number % n)
+    else if kind == 1 then X (number % n)
+    else if kind == 2 then Phase Z (number % n)
+    else if kind == 3 then Phase S (number % n)
+    else if kind == 4 then Phase Sdg (number % n)
+    else if kind == 5 then Phase T (number % n)
+    else if kind == 6 then Phase Tdg (number % n)
+    else cx_of n number
 
 -- so many gates on n qubits, one for each word of SplitMix64 from this state on
 abbrev pub gates_from : ℕ → ℕ → ℕ → List Gate
