@@ -32,11 +32,15 @@ gates_from zero n state = []
 gates_from (suc count) n state =
     let word = (mix_u64 state).0 in gate_of (word % 8) n (word / 8) ∷ gates_from count n (mix_u64 state).1
 
--- the program of a seed: one quantum register `q`, and nothing but gates
-abbrev pub generated : ℕ → ℕ → ℕ → ProgramView
-generated seed qubits gates = record {
+-- the program of these gates on so many qubits: one quantum register `q`, and nothing but the gates
+abbrev pub on_one_register : ℕ → List Gate → ProgramView
+on_one_register qubits gates = record {
   qregs = record { name = codes "q"; size = qubits } ∷ [];
   cregs = [];
-  gates = gates_from gates qubits seed;
+  gates = gates;
   tail = [];
 }
+
+-- the program of a seed, a number of qubits and a number of gates
+abbrev pub generated : ℕ → ℕ → ℕ → ProgramView
+generated seed qubits gates = on_one_register qubits (gates_from gates qubits seed)

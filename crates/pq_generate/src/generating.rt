@@ -2,7 +2,7 @@ ghost use Rattle.std.specs.Prelude.{◌≡◌, ◌≤◌, ◌/◌, ◌%◌, IfOk
 ghost use Rattle.pq_gate.specs.declared.gate.Gate.TheVariants.{Phase};
 ghost use Rattle.pq_text.specs.WellFormed.{WellFormed};
 ghost use Rattle.pq_read.specs.Environment.{view};
-ghost use Rattle.pq_generate.specs.Generated.{cx_of, gate_of, generated};
+ghost use Rattle.pq_generate.specs.Generated.{cx_of, gate_of, generated, on_one_register};
 
 use pq_gate::{Eighths, Gate, GateList};
 use pq_read::{Name, Program, RegList, Register, TailList};
@@ -13,12 +13,7 @@ use std::alloc::{AllocError, Global};
 /// The program of a seed: so many gates on one quantum register `q`. There are 1 to 4,096 qubits, and at
 /// most 1,048,576 gates. Each gate comes of one word of SplitMix64, which is started with the seed as its
 /// state.
-pub fn generate(
-    alloc: Global,
-    seed: u64,
-    qubits: u32,
-    gates: u32,
-) -> Result<Program, AllocError>
+pub fn generate(alloc: Global, seed: u64, qubits: u32, gates: u32) -> Result<Program, AllocError>
     requires some { 1 ≤ qubits }
     requires few_qubits { qubits ≤ 4096 }
     requires few_gates { gates ≤ 1048576 }
@@ -30,15 +25,21 @@ pub fn generate(
     for _number in 0..gates {
         list.push_kept(gate(words.next_u64(), qubits));
     }
+    let program = on_one_register(alloc, qubits, list)?;
+    Ok(program)
+}
+
+/// The program of these gates on one quantum register `q`.
+fn on_one_register(alloc: Global, qubits: u32, gates: GateList) -> Result<Program, AllocError>
+    ensures { IfOk result (λ program. view program ≡ on_one_register qubits gates.items) }
+{
+    let name = Name::of(alloc, "q")?;
     let mut qregs = RegList::with_room(alloc, 1)?;
-    qregs.push_kept(Register {
-        name: Name::of(alloc, "q")?,
-        size: qubits,
-    });
+    qregs.push_kept(Register { name, size: qubits });
     Ok(Program {
         qregs,
         cregs: RegList::with_room(alloc, 0)?,
-        gates: list,
+        gates,
         tail: TailList::with_room(alloc, 0)?,
     })
 }
