@@ -1,13 +1,13 @@
 -- The program of a seed is well-formed.
-use Rattle.std.proofs.Common.{◌≡◌, ℕ, zero, ◌+◌, ◌≤◌, List, [], ◌∷◌, length, codes, refl, sym, subst, lit≤, arith}
+use Rattle.std.proofs.Common.{◌≡◌, ℕ, ◌≤◌, [], codes, refl, sym, subst, lit≤, arith}
 use Rattle.std.proofs.lemmas.List.Elements.{All-nil, All-cons}
 use Rattle.pq_gate.specs.Circuit.{IsCircuit}
-use Rattle.pq_text.specs.Program.{ProgramView, RegisterView, places_of}
+use Rattle.pq_text.specs.Program.{ProgramView, places_of}
 use Rattle.pq_text.specs.Name.{IsLawfulName, reserved_words}
 use Rattle.pq_text.specs.WellFormed.{IsRegister, IsTailEntry, WellFormed}
 use Rattle.pq_read.specs.Words.{is_name}
 use Rattle.pq_read.proofs.Names.{name_is_lawful}
-use Rattle.pq_generate.specs.Generated.{gates_from, generated}
+use Rattle.pq_generate.specs.Generated.{generated}
 use Rattle.pq_generate.proofs.Wires.{gates_on_wires, length-gates_from}
 
 -- the name `q` is lawful

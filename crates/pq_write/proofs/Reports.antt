@@ -1,5 +1,5 @@
 -- The text of a report, number by number.
-use Rattle.std.proofs.Common.{◌≡◌, List, ℕ, ◌++◌, codes, decimal, refl, sym, ◌∙◌, append_assoc}
+use Rattle.std.proofs.Common.{◌≡◌, List, ℕ, ◌++◌, codes, decimal, append_assoc}
 use Rattle.pq_write.specs.declared.report.Report.{Report}
 use Rattle.pq_write.specs.Report.{report_text}
 

@@ -1,7 +1,6 @@
 use Rattle.std.proofs.Common.{◌≡◌, ◌++◌, codes, map, flat_map, ap, ◌∙◌}
 use Rattle.pq_text.specs.Print.{header, register_line, gate_line, tail_line}
 use Rattle.pq_read.specs.Environment.{view, register_view, item_view}
-use Rattle.pq_write.proofs.Bounds.{quantum, classical}
 use Rattle.pq_write.proofs.Listing.{assembled}
 use Rattle.pq_write.proofs.program.push_program.Goals as goal
 

@@ -1,5 +1,5 @@
-use Rattle.std.proofs.Common.{◌≡◌, length, map, ap, ◌∙◌, arith}
-use Rattle.pq_read.specs.Environment.{view, register_view}
+use Rattle.std.proofs.Common.{arith}
+use Rattle.pq_read.specs.Environment.{view}
 use Rattle.pq_write.proofs.Bounds.{quantum, classical, print_short}
 use Rattle.pq_write.proofs.program.text_with_room.Goals as goal
 
