@@ -18,7 +18,7 @@ use Rattle.pq_loop.specs.Loops.{LoopView}
 use Rattle.pq_loop.specs.Opt.{Total, Opt, Local}
 use Rattle.pq_loop.proofs.Ending.{opt_local, opt_same, opt_bound}
 use Rattle.pq_loop.proofs.Falling.{round_falls}
-use Rattle.pq_top.specs.Optimised.{options, with_gates, total_of, KeepsMatrix, IsOptimised}
+use Rattle.pq_top.specs.Outputs.{options, with_gates, total_of, KeepsMatrix, IsOptimised}
 use Rattle.pq_top.proofs.Leading.{IsOnItsWay, led_to_end}
 use Rattle.pq_top.proofs.Shortening.{opt_shorter}
 
