@@ -1,6 +1,6 @@
 -- What each command makes of the program that is read, or generated.
-use Rattle.std.specs.Prelude.{◌≡◌, ℕ, ◌+◌, ◌-◌, ◌*◌, ◌≤◌, ◌⊎◌, Bool, List, ◌++◌, length, map, codes, decimal}
-use Rattle.std.specs.List.{join_with_byte}
+use Rattle.std.specs.Prelude.{◌≡◌, ℕ, ◌+◌, ◌-◌, ◌*◌, ◌≤◌, ◌⊎◌, Bool, List, ◌++◌, length, codes, decimal}
+use Rattle.std.specs.List.{flat_map}
 use Rattle.pq_gate.specs.declared.gate.Gate.{Gate}
 use Rattle.pq_gate.specs.Circuit.{IsCircuit}
 use Rattle.pq_gate.specs.Matrix.{Same}
@@ -76,9 +76,13 @@ pub record IsOptText (omega : ℕ) (options : Options) (text output : List ℕ) 
   pub optimised : IsOptimised omega program total
   pub written : output ≡ print (with_gates program total.gates) ++ report_text (report_of omega program.gates total)
 
+-- a number after a space
+abbrev pub spaced : ℕ → List ℕ
+spaced number = codes " " ++ decimal number
+
 -- `redex R at P1 P2 ..`: the number of the row, and all places
 unfoldable pub redex_line : RedexView → List ℕ
-redex_line redex = codes "redex " ++ (decimal redex.row ++ (codes " at " ++ (join_with_byte 32 (map decimal redex.places) ++ codes "\n")))
+redex_line redex = codes "redex " ++ (decimal redex.row ++ (codes " at" ++ (flat_map spaced redex.places ++ codes "\n")))
 
 unfoldable pub local_line : List ℕ
 local_line = codes "local\n"

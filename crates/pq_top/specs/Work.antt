@@ -1,18 +1,22 @@
 -- What came of the work, before its note is put and its status answered.
-use Rattle.std.specs.Prelude.{◌≡◌, ℕ, Bool, if◌then◌else◌, List, [], None, Err}
+use Rattle.std.specs.Prelude.{◌≡◌, ℕ, ◌+◌, Bool, if◌then◌else◌, List, [], Some, IsSome, Result, Ok, Err}
 use Rattle.std.specs.Io.KnownBytes.{Appends}
-use Rattle.pq_io.specs.Whole.{ReadsUpToFault, WritesUpToFault}
+use Rattle.pq_io.specs.Whole.{ReadsUpToFault, WritesUpToFault, TakesFirst}
 use Rattle.pq_read.specs.declared.program.Options.{Options}
+use Rattle.pq_read.specs.declared.refusal.ReadError.{ReadError}
+use Rattle.pq_read.specs.declared.refusal.ReadError.TheVariants as errors
 use Rattle.pq_command.specs.declared.settings.Settings.{Settings}
 use Rattle.pq_command.specs.Asked.{asked}
 use Rattle.pq_top.specs.declared.answer.Answer.{Answer}
+use Rattle.pq_top.specs.declared.answer.Output.{Output}
 use Rattle.pq_top.specs.declared.answer.Refusal.{Refusal}
+use Rattle.pq_top.specs.declared.answer.Refusal.TheVariants.{Text, TooLong}
 use Rattle.pq_top.specs.declared.answer.Answer.TheVariants.{Done, Usage, Refused, ReadFault, WriteFault, OutOfMemory}
 use Rattle.pq_top.specs.Device.{Moved}
 use Rattle.pq_top.specs.Request.{AskFor, AskToRead, reads_by}
-use Rattle.pq_top.specs.Outputs.{input_limit}
+use Rattle.pq_top.specs.Outputs.{Makes, input_limit}
 use Rattle.pq_top.specs.Notes.{usage_line, refusal_line, read_fault_line, write_fault_line, out_of_memory_line}
-use Rattle.pq_top.specs.Answers.{Produces, IsDone, Refuses}
+use Rattle.pq_top.specs.Answers.{HasRead, Produces, IsDone, Refuses}
 
 -- the words ask for a command that reads a text, and the source is refused for this reason
 pub record IsRefusedFor (words : List (List ℕ)) (input : Moved) (refusal : Refusal) : Type 0 where
@@ -57,6 +61,11 @@ LeavesSink (Done found) = ⊥
 LeavesSink (WriteFault sent) = ⊥
 LeavesSink _ = Unit {0}
 
+-- the answers that come before a line is noted, as there is none
+abbrev pub LeavesNotes : Answer → Type 0
+LeavesNotes (Done found) = Unit {0}
+LeavesNotes _ = ⊥
+
 -- the status of an answer
 abbrev pub status_of : Answer → ℕ
 status_of (Done found) = status_by found
@@ -100,3 +109,9 @@ abbrev pub WritesOutput : Moved → Output → Answer → Type 0
 WritesOutput device output (Done found) = (found ≡ output.found) × Appends device.before device.after output.text.items
 WritesOutput device output (WriteFault sent) = WritesUpToFault device.before device.after device.was device.now output.text.items sent
 WritesOutput device output _ = ⊥
+
+-- what a text gave, where its output isn't made with the answer for its fault
+abbrev pub answered_by : Result Output ReadError → Result Output Answer
+answered_by (Ok output) = Ok output
+answered_by (Err (errors.Refused fault)) = Err (Refused (Text fault))
+answered_by (Err errors.OutOfMemory) = Err OutOfMemory

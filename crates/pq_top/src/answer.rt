@@ -1,9 +1,12 @@
-ghost use Rattle.std.specs.Prelude.{◌≡◌, ℕ, List, Some, map, IfOk, IfErr};
+ghost use Rattle.std.specs.Prelude.{◌≡◌, None, map, IfOk, IfErr};
 ghost use Rattle.std.specs.String.{string_bytes};
-ghost use Rattle.pq_read.specs.declared.program.Options.{Options};
+ghost use Rattle.pq_io.specs.Whole.{ReadsToEnd};
+ghost use Rattle.pq_command.specs.Ranges.{IsInRange};
+ghost use Rattle.pq_top.specs.declared.answer.Answer.TheVariants.{OutOfMemory};
 ghost use Rattle.pq_top.specs.Device.{moved};
+ghost use Rattle.pq_top.specs.Request.{AskToMake, reads_by};
 ghost use Rattle.pq_top.specs.Outputs.{input_limit};
-ghost use Rattle.pq_top.specs.Work.{Means, LeavesSource, LeavesSink, Gives, FailsFor, FailsToRead};
+ghost use Rattle.pq_top.specs.Work.{Means, LeavesSource, LeavesSink, Gives, FailsFor, FailsToRead, WritesOutput, answered_by};
 
 use crate::check::checked;
 use crate::optimise::{benched, generated_text, optimised};
@@ -44,9 +47,9 @@ pub struct Output {
 }
 
 impl From<AllocError> for Answer {
-    fn from(_error: AllocError) -> Answer
-        ensures { result ≡ Answer.OutOfMemory }
-    {
+    ghost from_gives = { λ _ e. e ≡ OutOfMemory };
+
+    fn from(_error: AllocError) -> Answer {
         Answer::OutOfMemory
     }
 }
@@ -136,6 +139,7 @@ fn output_of<S: Source>(
 
 /// The output, or the answer where there is none.
 fn answered(made: Result<Output, ReadError>) -> Result<Output, Answer>
+    ensures { result ≡ answered_by made }
 {
     match made {
         Ok(output) => Ok(output),

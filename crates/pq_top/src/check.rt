@@ -1,6 +1,7 @@
-ghost use Rattle.std.specs.Prelude.{◌≡◌, ◌≤◌, length, IfOk, IfErr};
+ghost use Rattle.std.specs.Prelude.{◌≡◌, ◌≤◌, ◌++◌, ℕ, List, length, decimal, flat_map, IfOk, IfErr, OnOk};
+ghost use Rattle.pq_match.specs.Found.{seen};
 ghost use Rattle.pq_read.specs.Reads.{IsRefusedFor};
-ghost use Rattle.pq_top.specs.Outputs.{input_limit, redex_line, IsCheckText};
+ghost use Rattle.pq_top.specs.Outputs.{input_limit, spaced, redex_line, local_line, IsCheckText};
 ghost use Rattle.pq_top.specs.Work.{status_by};
 
 use crate::answer::Output;
@@ -28,32 +29,54 @@ pub fn checked(
     let program = read_text(alloc, text.as_slice(), options)?;
     drop(text);
     let rules = Rules::builtin(alloc)?;
-    let found = find_within(program.gates.as_slice(), &rules, omega);
-    let mut line = Vec::with_capacity(alloc, LINE_ROOM)?;
-    match &found {
-        Some(redex) => push_redex(&mut line, redex)?,
-        None => line.extend_from_slice(b"local\n")?,
+    match find_within(program.gates.as_slice(), &rules, omega) {
+        Some(redex) => Ok(Output {
+            text: redex_text(alloc, &redex)?,
+            found: true,
+        }),
+        None => Ok(Output {
+            text: local_text(alloc)?,
+            found: false,
+        }),
     }
-    Ok(Output {
-        text: ByteList::of(line),
-        found: found.is_some(),
-    })
 }
 
-// Room for the line of a redex: its number, and at most eight places.
-const LINE_ROOM: usize = 100;
-
-/// Appends the line of a redex.
-fn push_redex(line: &mut Vec<u8>, redex: &Redex) -> Result<(), AllocError>
+/// The line that there is no redex.
+#[tactic(auto, unfolding(crate::specs::Outputs::local_line))]
+fn local_text(alloc: Global) -> Result<ByteList, AllocError>
+    ensures { IfOk result (λ text. text.items ≡ local_line) }
 {
+    let line = Vec::from_slice(alloc, b"local\n")?;
+    Ok(ByteList::of(line))
+}
+
+// Room for the line of a redex: 10 bytes for the words, at most 10 digits for the number of the row, and at most
+// 11 bytes for each of eight places.
+const LINE_ROOM: usize = 108;
+
+/// The line of a redex.
+fn redex_text(alloc: Global, redex: &Redex) -> Result<ByteList, AllocError>
+    requires { redex.now.count ≤ 8 }
+    ensures { IfOk result (λ text. (wires : List ℕ) → text.items ≡ redex_line (seen redex.now wires)) }
+{
+    let mut line = Vec::with_capacity(alloc, LINE_ROOM)?;
     line.extend_from_slice(b"redex ")?;
-    push_number(line, redex.row)?;
+    push_number(&mut line, redex.row)?;
     line.extend_from_slice(b" at")?;
-    for place in &redex.places[..redex.count as usize] {
+    push_places(&mut line, &redex.places[..redex.count as usize])?;
+    line.push(b'\n')?;
+    Ok(ByteList::of(line))
+}
+
+/// Appends the places, a space before each.
+fn push_places(line: &mut Vec<u8>, places: &[u32]) -> Result<(), AllocError>
+    ensures { OnOk result (line.new.items ≡ line.old.items ++ flat_map spaced places.now) }
+{
+    for place in places {
         line.push(b' ')?;
         push_number(line, *place)?;
     }
-    line.push(b'\n')
+    Ok(())
 }
 
 /// Appends a number in decimal.

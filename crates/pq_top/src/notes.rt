@@ -1,9 +1,9 @@
-ghost use Rattle.std.specs.Prelude.{◌≡◌, ◌≤◌, ◌++◌, [], codes, flat_map};
+ghost use Rattle.std.specs.Prelude.{◌≡◌, ◌≤◌, ◌++◌, codes, flat_map};
 ghost use Rattle.pq_command.specs.CommandLine.{name_of as switch_name};
 ghost use Rattle.pq_io.specs.Whole.{WritesWhole};
 ghost use Rattle.pq_top.specs.Device.{moved, Noted};
 ghost use Rattle.pq_top.specs.Notes.{piece_text, usage_line, refusal_line, fault_line};
-ghost use Rattle.pq_top.specs.Work.{note_line};
+ghost use Rattle.pq_top.specs.Work.{note_line, LeavesNotes};
 
 use crate::answer::{Answer, Refusal};
 use itoa::Buffer;
@@ -22,7 +22,7 @@ pub enum Piece<'t> {
 #[tactic(auto, unfolding(crate::specs::Notes::read_fault_line, crate::specs::Notes::write_fault_line, crate::specs::Notes::out_of_memory_line))]
 pub fn note<N: Sink>(notes: &mut N, answer: Answer)
     ensures noted { Noted (moved N.held N.faults notes.old notes.new) (note_line answer) }
-    ensures quiet { note_line answer ≡ [] → notes.new ≡ notes.old }
+    ensures quiet { LeavesNotes answer → notes.new ≡ notes.old }
 {
     match answer {
         Answer::Done { .. } => {}
