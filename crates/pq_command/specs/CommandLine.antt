@@ -1,0 +1,38 @@
+-- The command line as one simple command of clap.
+use Rattle.std.specs.Prelude.{List, [], ◌∷◌, true, Some, None, codes, fold}
+use Rattle.clap.specs.Simple.{new_shape}
+use Rattle.clap.specs.Words.{App, Rule, Text, new_rule, with_rule}
+use Rattle.clap.specs.declared.builder.action.ArgAction.TheVariants.{Set, SetTrue}
+use Rattle.pq_command.specs.declared.fault.Switch.{Switch}
+use Rattle.pq_command.specs.declared.fault.Switch.TheVariants.{Omega, Workers, DropBarriers, Seed, Qubits, Gates}
+
+-- the name of an option, without the two dashes
+abbrev pub name_of : Switch → Text
+name_of Omega = codes "omega"
+name_of Workers = codes "workers"
+name_of DropBarriers = codes "drop-barriers"
+name_of Seed = codes "seed"
+name_of Qubits = codes "qubits"
+name_of Gates = codes "gates"
+
+-- the word that names the command
+abbrev pub command_rule : Rule
+command_rule = record (new_rule (codes "command")) { required = true }
+
+-- an option with one text, and a flag
+abbrev pub option_rule : Switch → Rule
+option_rule switch = record (new_rule (name_of switch)) { long = Some (name_of switch); action = Some Set }
+
+abbrev pub flag_rule : Switch → Rule
+flag_rule switch = record (new_rule (name_of switch)) { long = Some (name_of switch); action = Some SetTrue }
+
+-- the command that reads the words after the program's name: neither subcommands nor a flag for help or version
+abbrev pub bare : App
+bare = record {
+  top = record (new_shape (codes "popqc")) { no_binary_name = true; disable_help_flag = true; disable_version_flag = true };
+  subs = [];
+}
+
+abbrev pub app : App
+app = with_rule (with_rule (with_rule (with_rule (with_rule (with_rule (with_rule bare command_rule)
+    (option_rule Omega)) (option_rule Workers)) (flag_rule DropBarriers)) (option_rule Seed)) (option_rule Qubits)) (option_rule Gates)

@@ -1,0 +1,32 @@
+/// An option of the command line, or its flag.
+#[derive(Clone, Copy, Debug, PartialEq, Eq)]
+pub enum Switch {
+    Omega,
+    Workers,
+    DropBarriers,
+    Seed,
+    Qubits,
+    Gates,
+}
+
+/// What is wrong with the words after the program's name.
+#[derive(Clone, Copy, Debug, PartialEq, Eq)]
+pub enum UsageFault {
+    /// They aren't a command with options, as the command line has them.
+    Words,
+
+    /// There is no command of this name.
+    Command,
+
+    /// The option is given, and the command takes no such option.
+    Unwanted(Switch),
+
+    /// The command needs the option, and it isn't given.
+    Missing(Switch),
+
+    /// The option's text isn't 1 to 20 decimal digits.
+    Number(Switch),
+
+    /// The option's number is outside its range.
+    Range(Switch),
+}
