@@ -1,5 +1,5 @@
 -- The command line as one simple command of clap.
-use Rattle.std.specs.Prelude.{List, [], ◌∷◌, true, Some, None, codes, fold}
+use Rattle.std.specs.Prelude.{List, [], ◌∷◌, true, Some, None, codes}
 use Rattle.clap.specs.Simple.{new_shape}
 use Rattle.clap.specs.Words.{App, Rule, Text, new_rule, with_rule}
 use Rattle.clap.specs.declared.builder.action.ArgAction.TheVariants.{Set, SetTrue}
@@ -20,11 +20,11 @@ abbrev pub command_rule : Rule
 command_rule = record (new_rule (codes "command")) { required = true }
 
 -- an option with one text, and a flag
-abbrev pub option_rule : Switch → Rule
-option_rule switch = record (new_rule (name_of switch)) { long = Some (name_of switch); action = Some Set }
+abbrev pub option_rule : Text → Rule
+option_rule name = record (new_rule name) { long = Some name; action = Some Set }
 
-abbrev pub flag_rule : Switch → Rule
-flag_rule switch = record (new_rule (name_of switch)) { long = Some (name_of switch); action = Some SetTrue }
+abbrev pub flag_rule : Text → Rule
+flag_rule name = record (new_rule name) { long = Some name; action = Some SetTrue }
 
 -- the command that reads the words after the program's name: neither subcommands nor a flag for help or version
 abbrev pub bare : App
@@ -35,4 +35,4 @@ bare = record {
 
 abbrev pub app : App
 app = with_rule (with_rule (with_rule (with_rule (with_rule (with_rule (with_rule bare command_rule)
-    (option_rule Omega)) (option_rule Workers)) (flag_rule DropBarriers)) (option_rule Seed)) (option_rule Qubits)) (option_rule Gates)
+    (option_rule (name_of Omega))) (option_rule (name_of Workers))) (flag_rule (name_of DropBarriers))) (option_rule (name_of Seed))) (option_rule (name_of Qubits))) (option_rule (name_of Gates))

@@ -1,8 +1,8 @@
 ghost use Rattle.std.specs.Prelude.{◌≡◌, Ok, Err, Some, None, true, false, IfOk, IfErr, map, option_map, is_some};
 ghost use Rattle.std.specs.String.{string_bytes};
 ghost use Rattle.std.specs.Str.Parse.{digits_value};
-ghost use Rattle.clap.specs.Words.{app_of, found_of, is_broken, matches_of, rows_of, takes};
-ghost use Rattle.pq_command.specs.CommandLine.{app, name_of};
+ghost use Rattle.clap.specs.Words.{app_of, found_of, matches_of, rows_of, rule_of, takes};
+ghost use Rattle.pq_command.specs.CommandLine.{app, flag_rule, name_of, option_rule};
 ghost use Rattle.pq_command.specs.Asked.{asked, asked_by, command_of, first_fault, given, is_in_range, is_needed, is_number, is_taken, number_or, settings_of, switch_fault, text_fault, IsFaultOf, IsUntaken};
 
 use crate::fault::{Switch, UsageFault};
@@ -63,25 +63,25 @@ fn command_line<'a>(alloc: Global) -> Result<clap::Command<'a>, AllocError>
         .disable_help_flag(true)
         .disable_version_flag(true)
         .arg(Arg::new(alloc, "command").required(true))?
-        .arg(option(alloc, Switch::Omega))?
-        .arg(option(alloc, Switch::Workers))?
-        .arg(flag(alloc, Switch::DropBarriers))?
-        .arg(option(alloc, Switch::Seed))?
-        .arg(option(alloc, Switch::Qubits))?
-        .arg(option(alloc, Switch::Gates))
+        .arg(option(alloc, "omega"))?
+        .arg(option(alloc, "workers"))?
+        .arg(flag(alloc, "drop-barriers"))?
+        .arg(option(alloc, "seed"))?
+        .arg(option(alloc, "qubits"))?
+        .arg(option(alloc, "gates"))
 }
 
 /// An option with one text.
-fn option<'a>(alloc: Global, switch: Switch) -> Arg<'a>
+fn option<'a>(alloc: Global, name: &'a str) -> Arg<'a>
+    ensures { rule_of result ≡ option_rule name.entry.now }
 {
-    let name = name(switch);
     Arg::new(alloc, name).long(name).action(ArgAction::Set)
 }
 
 /// A flag.
-fn flag<'a>(alloc: Global, switch: Switch) -> Arg<'a>
+fn flag<'a>(alloc: Global, name: &'a str) -> Arg<'a>
+    ensures { rule_of result ≡ flag_rule name.entry.now }
 {
-    let name = name(switch);
     Arg::new(alloc, name).long(name).action(ArgAction::SetTrue)
 }
 
