@@ -14,8 +14,8 @@ use Rattle.pq_command.specs.declared.settings.Command.{Command}
 use Rattle.pq_command.specs.declared.settings.Command.TheVariants.{Opt, Check, Gen, Bench}
 use Rattle.pq_command.specs.declared.settings.Settings.{Settings}
 use Rattle.pq_command.specs.declared.settings.Settings.TheVariants as settings
-use Rattle.pq_command.specs.declared.reading.WordsError.{WordsError}
-use Rattle.pq_command.specs.declared.reading.WordsError.TheVariants as failed
+use Rattle.pq_command.specs.declared.fault.WordsError.{WordsError}
+use Rattle.pq_command.specs.declared.fault.WordsError.TheVariants as failed
 use Rattle.pq_command.specs.CommandLine.{app, name_of}
 
 -- the command of this name
@@ -76,18 +76,33 @@ is_number text = nat_le 1 (length text) && (nat_le (length text) 20 && list_all 
 abbrev pub is_in_range : Switch → ℕ → Bool
 is_in_range switch number = nat_le (least switch) number && nat_le number (greatest switch)
 
--- the text that was given with an option, where it was given; of the flag only that it was given matters
-abbrev pub given : List Row → Switch → Option Text
-given rows DropBarriers = if option_map_or (λ text. bytes_eq text (codes "true")) (first_of (name_of DropBarriers) rows) false then Some [] else None
-given rows switch = first_of (name_of switch) rows
+-- the flag, which has no text
+abbrev pub is_flag : Switch → Bool
+is_flag DropBarriers = true
+is_flag _ = false
 
--- the first fault of the text of an option; the flag has no text
+-- the matches have the flag: clap reads it as a text, `true` where it was given and else `false`
+abbrev pub has_flag : Text → List Row → Bool
+has_flag name rows = option_map_or (λ text. bytes_eq text (codes "true")) (first_of name rows) false
+
+-- the text that was given with an option, where it was given; that of the flag is empty
+abbrev pub given : List Row → Switch → Option Text
+given rows switch =
+    if is_flag switch then (if has_flag (name_of switch) rows then Some [] else None)
+    else first_of (name_of switch) rows
+
+-- the first fault of the text of an option
 abbrev pub text_fault : Switch → Text → Option UsageFault
-text_fault DropBarriers text = None
 text_fault switch text =
-    if not (is_number text) then Some (fault.Number switch)
+    if is_flag switch then None
+    else if not (is_number text) then Some (fault.Number switch)
     else if is_in_range switch (digits_value 10 text) then None
     else Some (fault.Range switch)
+
+-- an option whose text, where it was given, has no fault
+pub record IsFaultless (rows : List Row) (switch : Switch) : Type 0 where
+  pub has_text : is_flag switch ≡ false
+  pub sound : option_map_or (text_fault switch) (given rows switch) None ≡ None
 
 -- the first fault of an option
 abbrev pub switch_fault : Command → List Row → Switch → Option UsageFault

@@ -1,5 +1,5 @@
 -- The command line as one simple command of clap.
-use Rattle.std.specs.Prelude.{List, [], ◌∷◌, true, Some, None, codes}
+use Rattle.std.specs.Prelude.{[], ◌∷◌, true, Some, codes, fold}
 use Rattle.clap.specs.Simple.{new_shape}
 use Rattle.clap.specs.Words.{App, Rule, Text, new_rule, with_rule}
 use Rattle.clap.specs.declared.builder.action.ArgAction.TheVariants.{Set, SetTrue}
@@ -15,9 +15,9 @@ name_of Seed = codes "seed"
 name_of Qubits = codes "qubits"
 name_of Gates = codes "gates"
 
--- the word that names the command
-abbrev pub command_rule : Rule
-command_rule = record (new_rule (codes "command")) { required = true }
+-- a word that must stand
+abbrev pub word_rule : Text → Rule
+word_rule name = record (new_rule name) { required = true }
 
 -- an option with one text, and a flag
 abbrev pub option_rule : Text → Rule
@@ -33,6 +33,7 @@ bare = record {
   subs = [];
 }
 
+-- one word names the command, and the options stand anywhere
 abbrev pub app : App
-app = with_rule (with_rule (with_rule (with_rule (with_rule (with_rule (with_rule bare command_rule)
-    (option_rule (name_of Omega))) (option_rule (name_of Workers))) (flag_rule (name_of DropBarriers))) (option_rule (name_of Seed))) (option_rule (name_of Qubits))) (option_rule (name_of Gates))
+app = fold with_rule bare (word_rule (codes "command") ∷ option_rule (name_of Omega) ∷ option_rule (name_of Workers) ∷ flag_rule (name_of DropBarriers)
+    ∷ option_rule (name_of Seed) ∷ option_rule (name_of Qubits) ∷ option_rule (name_of Gates) ∷ [])

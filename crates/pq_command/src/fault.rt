@@ -1,3 +1,7 @@
+ghost use Rattle.std.specs.Prelude.{◌≡◌};
+
+use std::alloc::AllocError;
+
 /// An option of the command line, or its flag.
 #[derive(Clone, Copy, Debug, PartialEq, Eq)]
 pub enum Switch {
@@ -29,4 +33,22 @@ pub enum UsageFault {
 
     /// The option's number is outside its range.
     Range(Switch),
+}
+
+/// Why there are no settings.
+#[derive(Clone, Copy, Debug, PartialEq, Eq)]
+pub enum WordsError {
+    /// The words have a fault.
+    Usage(UsageFault),
+
+    /// Memory was refused.
+    OutOfMemory,
+}
+
+impl From<AllocError> for WordsError {
+    fn from(_error: AllocError) -> WordsError
+        ensures { result ≡ WordsError.OutOfMemory }
+    {
+        WordsError::OutOfMemory
+    }
 }

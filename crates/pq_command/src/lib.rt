@@ -2,11 +2,12 @@
 #![tactic(auto)]
 
 mod fault;
+mod line;
+mod options;
 mod reading;
 mod settings;
 
-
-
-pub use fault::{Switch, UsageFault};
-pub use reading::{WordsError, read_words};
+pub use fault::{Switch, UsageFault, WordsError};
+pub use options::name;
+pub use reading::read_words;
 pub use settings::{Command, Settings};
