@@ -10,8 +10,11 @@ use Rattle.pq_command.specs.CommandLine.{name_of}
 use Rattle.pq_command.specs.Asked.{given, is_flag}
 
 -- the getter's answer, by the rows
+pub first_is : (f : Found) (id : Text) (o : Option Text) → o ≡ first_value f id → first_of id (rows_of f) ≡ o
+first_is f id o is = sym (is ∙ first_value-rows f id)
+
 pub first_at : (f : Found) (switch : Switch) (name : Text) (o : Option Text) → name ≡ name_of switch → o ≡ first_value f name → first_of (name_of switch) (rows_of f) ≡ o
-first_at f switch name o named is = sym (is ∙ first_value-rows f name ∙ ap (λ n. first_of n (rows_of f)) named)
+first_at f switch name o named is = ap (λ n. first_of n (rows_of f)) (sym named) ∙ first_is f name o is
 
 not_flag : (switch : Switch) → (switch ≡ DropBarriers → ⊥) → is_flag switch ≡ false
 not_flag Omega h = refl

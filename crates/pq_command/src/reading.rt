@@ -62,9 +62,12 @@ fn command_named(word: &str) -> Option<Command>
 fn first_fault(matches: &ArgMatches, command: Command) -> Option<UsageFault>
     ensures { result ≡ spec.first_fault command (rows_of (found_of matches.now)) }
 {
-    SWITCHES
-        .iter()
-        .find_map(|switch| fault_of(matches, command, *switch))
+    for switch in &SWITCHES {
+        if let Some(fault) = fault_of(matches, command, *switch) {
+            return Some(fault);
+        }
+    }
+    None
 }
 
 /// The settings of a command whose options have no fault.
