@@ -1,4 +1,5 @@
 ghost use Rattle.std.specs.Prelude.{◌≡◌};
+ghost use Rattle.pq_command.specs.declared.fault.WordsError.TheVariants.{OutOfMemory};
 
 use std::alloc::AllocError;
 
@@ -46,9 +47,9 @@ pub enum WordsError {
 }
 
 impl From<AllocError> for WordsError {
-    fn from(_error: AllocError) -> WordsError
-        ensures { result ≡ WordsError.OutOfMemory }
-    {
+    ghost from_gives = { λ _ e. e ≡ OutOfMemory };
+
+    fn from(_error: AllocError) -> WordsError {
         WordsError::OutOfMemory
     }
 }

@@ -1,4 +1,4 @@
-ghost use Rattle.std.specs.Prelude.{◌≡◌, true, IfOk, IfErr, map};
+ghost use Rattle.std.specs.Prelude.{◌≡◌, true, false, IfOk, IfErr, map};
 ghost use Rattle.std.specs.String.{string_bytes};
 ghost use Rattle.clap.specs.Words.{app_of, found_of, matches_of, rows_of, rule_of, takes};
 ghost use Rattle.pq_command.specs.CommandLine.{app, flag_rule, option_rule, word_rule};
@@ -44,21 +44,24 @@ fn command_line<'a>(alloc: Global) -> Result<Command<'a>, AllocError>
 
 /// A word that must stand.
 fn word<'a>(alloc: Global, name: &'a str) -> Arg<'a>
-    ensures { rule_of result ≡ word_rule name.entry.now }
+    ensures rule { rule_of result ≡ word_rule name.entry.now }
+    ensures local { result.global ≡ false }
 {
     Arg::new(alloc, name).required(true)
 }
 
 /// An option with one text.
 fn option<'a>(alloc: Global, name: &'a str) -> Arg<'a>
-    ensures { rule_of result ≡ option_rule name.entry.now }
+    ensures rule { rule_of result ≡ option_rule name.entry.now }
+    ensures local { result.global ≡ false }
 {
     Arg::new(alloc, name).long(name).action(ArgAction::Set)
 }
 
 /// A flag.
 fn flag<'a>(alloc: Global, name: &'a str) -> Arg<'a>
-    ensures { rule_of result ≡ flag_rule name.entry.now }
+    ensures rule { rule_of result ≡ flag_rule name.entry.now }
+    ensures local { result.global ≡ false }
 {
     Arg::new(alloc, name).long(name).action(ArgAction::SetTrue)
 }
