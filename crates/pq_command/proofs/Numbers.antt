@@ -37,10 +37,12 @@ some_if (Err e) A P v h a = λ p. h (a, p)
 pub digits_of : (text : List ℕ) → is_number text ≡ true → (0 < length text) × ((i : ℕ) → i < length text → IsInRange 48 57 (get_or text i 0))
 digits_of text h =
     let parts = both _ _ h in
-    let more = both _ _ parts.1 in
-    (leb-true 1 _ parts.0, λ i lt.
-        let digit = both _ _ (AllPass-from_list_all is_ascii_digit text more.1 i 0 lt) in
-        (leb-true 48 _ digit.0, leb-true _ 57 digit.1))
+    let more = both _ _ parts.1 in (
+      leb-true 1 _ parts.0,
+      λ i lt.
+          let digit = both _ _ (AllPass-from_list_all is_ascii_digit text more.1 i 0 lt) in
+          (leb-true 48 _ digit.0, leb-true _ 57 digit.1),
+    )
 
 -- a number parses where its value fits
 pub value_parsed : {E : Type 0} (text : List ℕ) (r : Result ℕ E) → ParsesUnsigned 64 10 text r → is_number text ≡ true → SomeIff (result_ok r) (digits_value 10 text < 2 ^ 64) (digits_value 10 text)

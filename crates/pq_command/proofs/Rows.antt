@@ -38,6 +38,6 @@ flag_given rows switch text b flag h is =
     rw (h, e, is) refl
 
 pub text_given : (rows : List Row) (switch : Switch) (text : Text) → (switch ≡ DropBarriers → ⊥) → first_of (name_of switch) rows ≡ Some text → Some text ≡ given rows switch
-text_given rows switch text other h = 
+text_given rows switch text other h =
     let e : is_flag switch ≡ false = not_flag switch other in
     rw (e, h) refl

@@ -108,7 +108,7 @@ pub record IsFaultless (rows : List Row) (switch : Switch) : Type 0 where
 abbrev pub switch_fault : Command → List Row → Switch → Option UsageFault
 switch_fault command rows switch =
     if is_some (given rows switch) then
-      (if is_taken command switch then option_map_or (text_fault switch) (given rows switch) None else Some (fault.Unwanted switch))
+    (if is_taken command switch then option_map_or (text_fault switch) (given rows switch) None else Some (fault.Unwanted switch))
     else (if is_needed command switch then Some (fault.Missing switch) else None)
 
 -- the options, in the order in which they are looked at

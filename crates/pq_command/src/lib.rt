@@ -11,3 +11,6 @@ pub use fault::{Switch, UsageFault, WordsError};
 pub use options::name;
 pub use reading::read_words;
 pub use settings::{Command, Settings};
+
+#[cfg(test)]
+mod tests;

@@ -56,7 +56,10 @@ fn is_taken(command: Command, switch: Switch) -> bool
     ensures { result ≡ asked.is_taken command switch }
 {
     match command {
-        Command::Opt => matches!(switch, Switch::Omega | Switch::Workers | Switch::DropBarriers),
+        Command::Opt => matches!(
+            switch,
+            Switch::Omega | Switch::Workers | Switch::DropBarriers
+        ),
         Command::Check => matches!(switch, Switch::Omega | Switch::DropBarriers),
         Command::Gen => is_needed(command, switch),
         Command::Bench => !matches!(switch, Switch::DropBarriers),
@@ -69,7 +72,10 @@ fn is_needed(command: Command, switch: Switch) -> bool
 {
     match command {
         Command::Opt | Command::Check => false,
-        Command::Gen | Command::Bench => matches!(switch, Switch::Seed | Switch::Qubits | Switch::Gates),
+        Command::Gen | Command::Bench => matches!(
+            switch,
+            Switch::Seed | Switch::Qubits | Switch::Gates
+        ),
     }
 }
 

@@ -82,10 +82,27 @@ fn with_numbers(matches: &ArgMatches, command: Command) -> Settings
     let qubits = small_number(matches, Switch::Qubits, 0);
     let gates = small_number(matches, Switch::Gates, 0);
     match command {
-        Command::Opt => Settings::Opt { omega, workers, drop_barriers },
-        Command::Check => Settings::Check { omega, drop_barriers },
-        Command::Gen => Settings::Gen { seed, qubits, gates },
-        Command::Bench => Settings::Bench { omega, workers, seed, qubits, gates },
+        Command::Opt => Settings::Opt {
+            omega,
+            workers,
+            drop_barriers,
+        },
+        Command::Check => Settings::Check {
+            omega,
+            drop_barriers,
+        },
+        Command::Gen => Settings::Gen {
+            seed,
+            qubits,
+            gates,
+        },
+        Command::Bench => Settings::Bench {
+            omega,
+            workers,
+            seed,
+            qubits,
+            gates,
+        },
     }
 }
 
