@@ -48,11 +48,16 @@ text_is_sound command rows switch h = go (given rows switch) (is_taken command s
     go (Some text) true needed e = e
     go (Some text) false needed e = cc
 
+-- an option without a fault, by its place in the list
+pub no_switch_fault : (command : Command) (rows : List Row) (k : ℕ) (switch : Switch) → first_fault command rows ≡ None → k < 6 → slice_index_or switches k Omega ≡ switch
+    → switch_fault command rows switch ≡ None
+no_switch_fault command rows k switch none lt at = ap (switch_fault command rows) (sym at) ∙ none_first (switch_fault command rows) switches none k Omega lt
+
 faultless : (command : Command) (rows : List Row) (k : ℕ) (switch : Switch) → first_fault command rows ≡ None → k < 6 → slice_index_or switches k Omega ≡ switch → is_flag switch ≡ false
     → IsFaultless rows switch
 faultless command rows k switch none lt at has_text = record {
   has_text = has_text;
-  sound = text_is_sound command rows switch (ap (switch_fault command rows) (sym at) ∙ none_first (switch_fault command rows) switches none k Omega lt);
+  sound = text_is_sound command rows switch (no_switch_fault command rows k switch none lt at);
 }
 
 pub omega_faultless : (command : Command) (rows : List Row) → first_fault command rows ≡ None → IsFaultless rows Omega

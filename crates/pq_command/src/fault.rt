@@ -1,4 +1,5 @@
 ghost use Rattle.std.specs.Prelude.{◌≡◌};
+ghost use Rattle.pq_command.specs.CommandLine.{name_of};
 ghost use Rattle.pq_command.specs.declared.fault.WordsError.TheVariants.{OutOfMemory};
 
 use std::alloc::AllocError;
@@ -12,6 +13,22 @@ pub enum Switch {
     Seed,
     Qubits,
     Gates,
+}
+
+impl Switch {
+    /// The name, without the two dashes.
+    pub fn name(self) -> &'static str
+        ensures { result.now ≡ name_of self }
+    {
+        match self {
+            Switch::Omega => "omega",
+            Switch::Workers => "workers",
+            Switch::DropBarriers => "drop-barriers",
+            Switch::Seed => "seed",
+            Switch::Qubits => "qubits",
+            Switch::Gates => "gates",
+        }
+    }
 }
 
 /// What is wrong with the words after the program's name.

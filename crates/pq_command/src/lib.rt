@@ -8,7 +8,6 @@ mod reading;
 mod settings;
 
 pub use fault::{Switch, UsageFault, WordsError};
-pub use options::name;
 pub use reading::read_words;
 pub use settings::{Command, Settings};
 

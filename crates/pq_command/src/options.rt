@@ -1,7 +1,6 @@
 ghost use Rattle.std.specs.Prelude.{◌≡◌, ◌<◌, ◌≤◌, ◌^◌, SomeIff, option_map, true};
 ghost use Rattle.std.specs.Str.Parse.{digits_value};
 ghost use Rattle.clap.specs.Words.{found_of, rows_of};
-ghost use Rattle.pq_command.specs.CommandLine.{name_of};
 ghost use Rattle.pq_command.specs.Asked as asked;
 
 use crate::fault::{Switch, UsageFault};
@@ -10,20 +9,6 @@ use clap::ArgMatches;
 
 // the most digits of a number
 const MAX_DIGITS: usize = 20;
-
-/// The name of an option, without the two dashes.
-pub fn name(switch: Switch) -> &'static str
-    ensures { result.now ≡ name_of switch }
-{
-    match switch {
-        Switch::Omega => "omega",
-        Switch::Workers => "workers",
-        Switch::DropBarriers => "drop-barriers",
-        Switch::Seed => "seed",
-        Switch::Qubits => "qubits",
-        Switch::Gates => "gates",
-    }
-}
 
 /// The first fault of an option.
 pub fn fault_of(matches: &ArgMatches, command: Command, switch: Switch) -> Option<UsageFault>
@@ -41,7 +26,7 @@ pub fn fault_of(matches: &ArgMatches, command: Command, switch: Switch) -> Optio
 pub fn text_of<'a>(matches: &ArgMatches<'a>, switch: Switch) -> Option<&'a str>
     ensures { option_map (λ text. text.now) result ≡ asked.given (rows_of (found_of matches.now)) switch }
 {
-    let Some(text) = matches.get_str(name(switch)) else {
+    let Some(text) = matches.get_str(switch.name()) else {
         return None;
     };
     match switch {

@@ -3,6 +3,7 @@ ghost use Rattle.std.specs.String.{string_bytes};
 ghost use Rattle.clap.specs.Words.{found_of, rows_of};
 ghost use Rattle.pq_command.specs.Asked.{IsFaultOf, IsFaultless, asked, asked_by, command_of, greatest, number_or, settings_of};
 ghost use Rattle.pq_command.specs.Asked as spec;
+ghost use Rattle.pq_command.specs.Ranges.{IsInRange};
 
 use crate::fault::{Switch, UsageFault, WordsError};
 use crate::line::matched;
@@ -23,6 +24,7 @@ const SWITCHES: [Switch; 6] = [
 /// What the words after the program's name ask for.
 pub fn read_words(alloc: Global, words: &[String]) -> Result<Settings, WordsError>
     ensures settings { IfOk result (λ settings. asked (map string_bytes words.now) ≡ Ok settings) }
+    ensures in_range { IfOk result IsInRange }
     ensures fault { IfErr result (IsFaultOf (map string_bytes words.now)) }
 {
     let matches = matched(alloc, words)?;
@@ -31,7 +33,8 @@ pub fn read_words(alloc: Global, words: &[String]) -> Result<Settings, WordsErro
 
 /// What the matches ask for.
 fn asked_of(matches: &ArgMatches) -> Result<Settings, UsageFault>
-    ensures { result ≡ asked_by (rows_of (found_of matches.now)) }
+    ensures asked { result ≡ asked_by (rows_of (found_of matches.now)) }
+    ensures in_range { IfOk result IsInRange }
 {
     let Some(word) = matches.get_str("command") else {
         return Err(UsageFault::Command);
