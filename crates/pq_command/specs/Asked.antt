@@ -143,7 +143,7 @@ asked_by rows =
 
 -- What the words after the program's name ask for: the settings, or the fault of the words. The words are
 -- read as clap reads them by the simple command `app`.
-abbrev pub asked : List Text → Result Settings UsageFault
+unfoldable pub asked : List Text → Result Settings UsageFault
 asked words = if takes app words then asked_by (matches_of app words) else Err fault.Words
 
 -- the words aren't those of the simple command

@@ -12,6 +12,7 @@ use crate::settings::{Command, Settings};
 use clap::ArgMatches;
 use std::alloc::Global;
 
+// the options, in the order in which they are looked at
 const SWITCHES: [Switch; 6] = [
     Switch::Omega,
     Switch::Workers,
@@ -22,6 +23,7 @@ const SWITCHES: [Switch; 6] = [
 ];
 
 /// What the words after the program's name ask for.
+#[tactic(auto, unfolding(crate::specs::Asked::asked))]
 pub fn read_words(alloc: Global, words: &[String]) -> Result<Settings, WordsError>
     ensures settings { IfOk result (λ settings. asked (map string_bytes words.now) ≡ Ok settings) }
     ensures in_range { IfOk result IsInRange }
