@@ -1,18 +1,26 @@
 -- A list of gates has a redex within a span exactly where one of its runs of that length has one.
-use Rattle.std.proofs.Common.{◌≡◌, ℕ, zero, suc, ◌+◌, ◌-◌, ◌<◌, ◌≤◌, true, false, eqb, Bool, List, [], ◌∷◌, ◌++◌, length, map, take, drop, get_or, refl, ap, sym, subst, ◌∙◌, arith}
+use Rattle.std.proofs.Common.{◌≡◌, ℕ, zero, suc, ◌+◌, ◌-◌, ◌<◌, ◌≤◌, true, false, eqb, Bool, List, [], ◌∷◌, ◌++◌, length, map, take, drop, get_or, refl, ap, sym, subst, ◌∙◌, inl, inr, arith}
 use Rattle.std.specs.Prelude.{All, AllPairs, ◌||◌}
 use Rattle.std.proofs.lemmas.Bool.{eqb-true, eq-eqb}
 use Rattle.std.proofs.lemmas.List.{get_or_default, get_or-map, get_or_append_left, get_or-append-add, length-map, length-append, length-take, length-drop, take-append-drop}
 use Rattle.pq_gate.specs.declared.gate.Gate.{Gate}
 use Rattle.pq_gate.specs.declared.gate.Gate.TheVariants.{H}
 use Rattle.pq_gate.specs.Commuting.{Commutes}
+use Rattle.pq_read.specs.declared.program.Options.{Options}
+use Rattle.pq_read.specs.declared.program.Program.{Program}
+use Rattle.pq_read.specs.Environment.{view}
+use Rattle.pq_read.specs.Reads.{Reads}
 use Rattle.pq_read.proofs.Meets.{same_bool}
 use Rattle.pq_rules.specs.Row.{RowView}
+use Rattle.pq_rules.specs.Table.{builtin_rows}
+use Rattle.pq_match.specs.declared.redex.Redex.{Redex}
+use Rattle.pq_match.specs.Found.{IsFirstFound, seen}
 use Rattle.pq_match.specs.Redex.{RedexView, IsRedex, IsWithin, HasNoRedex, AreFree, gate_at, is_chosen, last_place}
-use Rattle.pq_match.specs.First.{HasNoneWithin}
+use Rattle.pq_match.specs.First.{IsFirst, HasNoneWithin}
 use Rattle.pq_loop.specs.Round.{run}
 use Rattle.pq_loop.specs.Opt.{Local}
 use Rattle.pq_loop.proofs.Redexes.{shifted, later_redex, redex_in_longer}
+use Rattle.pq_top.specs.Outputs.{redex_line, local_line, IsCheckText}
 
 -- the gates before a run, those of the run, and those after it
 around_run : (gates : List Gate) (from to : ℕ) → gates ≡ take from gates ++ (run gates from to ++ drop (to - from) (drop from gates))
@@ -197,3 +205,38 @@ redex_not_local rules w gates redex is within local =
           up_to_last redex.places i is.matches.rising here,
           run_long,
         )
+
+-- So what is written of a program is what holds of its gates.
+
+pub names_redex : (w : ℕ) (text output : List ℕ) (options : Options) (p : Program) (rules : List RowView) (gates : List Gate) (redex : Redex) →
+    gates ≡ p.gates.items → rules ≡ builtin_rows → Reads text options (view p) → IsFirstFound rules gates w redex →
+    ((wires : List ℕ) → output ≡ redex_line (seen redex wires)) → IsCheckText w options text 1 output
+names_redex w text output options p rules gates redex is rules_are read found written = record {
+  program = view p;
+  read = read;
+  says = inr (refl, record {
+    redex = seen redex found.wires;
+    first = first;
+    not_local = redex_not_local builtin_rows w p.gates.items (seen redex found.wires) first.is first.within;
+    written = written found.wires;
+  });
+}
+  where
+    first : IsFirst builtin_rows p.gates.items w (seen redex found.wires)
+    first =
+        subst (λ (rs : List RowView). IsFirst rs p.gates.items w (seen redex found.wires)) rules_are
+        (subst (λ (list : List Gate). IsFirst rules list w (seen redex found.wires)) is found.first)
+
+pub says_local : (w : ℕ) (text output : List ℕ) (options : Options) (p : Program) (rules : List RowView) (gates : List Gate) →
+    gates ≡ p.gates.items → rules ≡ builtin_rows → Reads text options (view p) → HasNoneWithin rules gates w → output ≡ local_line →
+    IsCheckText w options text 0 output
+says_local w text output options p rules gates is rules_are read none written = record {
+  program = view p;
+  read = read;
+  says = inl (refl, record { none = here; local = none_is_local builtin_rows w p.gates.items here; written = written });
+}
+  where
+    here : HasNoneWithin builtin_rows p.gates.items w
+    here =
+        subst (λ (rs : List RowView). HasNoneWithin rs p.gates.items w) rules_are
+        (subst (λ (list : List Gate). HasNoneWithin rules list w) is none)

@@ -1,13 +1,16 @@
 -- What rounds leave of the gates of a program, under the built-in rules.
-use Rattle.std.proofs.Common.{◌≡◌, ℕ, ◌+◌, ◌-◌, ◌*◌, ◌<◌, ◌≤◌, Result, Ok, Err, List, [], length, subst, arith}
+use Rattle.std.proofs.Common.{◌≡◌, ℕ, ◌+◌, ◌-◌, ◌*◌, ◌<◌, ◌≤◌, Result, Ok, Err, List, [], ◌++◌, length, ap, subst, ◌∙◌, arith}
 use Rattle.std.specs.Prelude.{All, IfOk}
 use Rattle.pq_gate.specs.declared.gate.Gate.{Gate}
 use Rattle.pq_gate.specs.Circuit.{IsCircuit}
 use Rattle.pq_gate.specs.Matrix.{Same}
 use Rattle.pq_text.specs.Program.{ProgramView, places_of}
 use Rattle.pq_text.specs.WellFormed.{WellFormed}
+use Rattle.pq_text.specs.Print.{print}
+use Rattle.pq_read.specs.declared.program.Options.{Options}
 use Rattle.pq_read.specs.declared.program.Program.{Program}
 use Rattle.pq_read.specs.Environment.{view}
+use Rattle.pq_read.specs.Reads.{Reads}
 use Rattle.pq_rules.specs.Row.{RowView, IsSound}
 use Rattle.pq_rules.specs.Table.{builtin_rows}
 use Rattle.pq_loop.specs.declared.looping.Finished.{Finished}
@@ -17,7 +20,9 @@ use Rattle.pq_loop.specs.Opt.{Total, Opt, Local}
 use Rattle.pq_loop.proofs.Ending.{opt_local, opt_same, opt_bound}
 use Rattle.pq_loop.proofs.Falling.{round_falls}
 use Rattle.pq_write.specs.declared.report.Report.{Report}
-use Rattle.pq_top.specs.Outputs.{with_gates, total_of, report_of, KeepsMatrix, IsOptimised}
+use Rattle.pq_write.specs.Report.{report_text}
+use Rattle.pq_generate.specs.Generated.{generated}
+use Rattle.pq_top.specs.Outputs.{with_gates, total_of, report_of, KeepsMatrix, IsOptimised, IsOptText, IsBenchText}
 use Rattle.pq_top.proofs.Leading.{IsOnItsWay, led_to_end}
 use Rattle.pq_top.proofs.Shortening.{opt_shorter}
 
@@ -102,3 +107,35 @@ numbers_of count fingers finished = record {
 pub reported : (w count fingers : ℕ) (gates : List Gate) (finished : Finished) → count ≡ length gates → fingers ≡ length (first_fingers (length gates) w) →
     numbers_of count fingers finished ≡ report_of w gates (total_of finished)
 reported w count fingers gates finished count_is fingers_are = λ i. numbers_of (count_is i) (fingers_are i) finished
+
+-- the text that is written with its report is the optimised one
+pub opt_text_by : (w count : ℕ) (text output : List ℕ) (options : Options) (p : Program) (given : List Gate) (finished : Finished) (report : Report) →
+    given ≡ p.gates.items → count ≡ length p.gates.items → WellFormed (view p) → Reads text options (view p) →
+    Opt builtin_rows w given (total_of finished) → KeepsMatrix given finished.gates.items finished.phase → Local builtin_rows w finished.gates.items →
+    finished.calls ≤ length (first_fingers (length given) w) + 2 * (length given - length finished.gates.items) →
+    finished.first_fingers ≡ length (first_fingers (length given) w) → report ≡ numbers_of count finished.first_fingers finished →
+    output ≡ print (view (record { qregs = p.qregs; cregs = p.cregs; gates = finished.gates; tail = p.tail })) ++ report_text report →
+    IsOptText w options text output
+opt_text_by w count text output options p given finished report is long formed read opt keeps local bound fingers report_is written = record {
+  program = view p;
+  read = read;
+  total = total_of finished;
+  optimised = optimised_by w (view p) given finished is formed opt keeps local bound;
+  written = written ∙ ap (λ r. print (with_gates (view p) finished.gates.items) ++ report_text r)
+      (report_is ∙ reported w count finished.first_fingers p.gates.items finished long (fingers ∙ ap (λ (gates : List Gate). length (first_fingers (length gates) w)) is));
+}
+
+-- and so is the report on a generated program
+pub bench_text_by : (w seed qubits gates count : ℕ) (output : List ℕ) (p : Program) (given : List Gate) (finished : Finished) (report : Report) →
+    given ≡ p.gates.items → count ≡ length p.gates.items → view p ≡ generated seed qubits gates → WellFormed (view p) →
+    Opt builtin_rows w given (total_of finished) → KeepsMatrix given finished.gates.items finished.phase → Local builtin_rows w finished.gates.items →
+    finished.calls ≤ length (first_fingers (length given) w) + 2 * (length given - length finished.gates.items) →
+    finished.first_fingers ≡ length (first_fingers (length given) w) → report ≡ numbers_of count finished.first_fingers finished →
+    output ≡ report_text report → IsBenchText w seed qubits gates output
+bench_text_by w seed qubits gates count output p given finished report is long made formed opt keeps local bound fingers report_is written = record {
+  total = total_of finished;
+  optimised = subst (λ (program : ProgramView). IsOptimised w program (total_of finished)) made (optimised_by w (view p) given finished is formed opt keeps local bound);
+  written = written ∙ ap report_text
+      (report_is ∙ reported w count finished.first_fingers p.gates.items finished long (fingers ∙ ap (λ (list : List Gate). length (first_fingers (length list) w)) is)
+      ∙ ap (λ (program : ProgramView). report_of w program.gates (total_of finished)) made);
+}

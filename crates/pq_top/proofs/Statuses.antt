@@ -94,8 +94,8 @@ pub usage_comes : (answer : Answer) (words : List (List ℕ)) (input output : Mo
 usage_comes (Usage fault) words input output means faulty = inl refl
 usage_comes OutOfMemory words input output means faulty = inr refl
 usage_comes (Done found) words input output means faulty = not_faulty words means.produces.wanted faulty.0 means.produces.asks faulty.1
-usage_comes (Refused refusal) words input output means faulty = not_faulty words means.asks.0 faulty.0 means.asks.1.0 faulty.1
-usage_comes (ReadFault taken) words input output means faulty = not_faulty words means.asks.0 faulty.0 means.asks.1.0 faulty.1
+usage_comes (Refused refusal) words input output means faulty = not_faulty words means.asks.0 faulty.0 means.asks.1 faulty.1
+usage_comes (ReadFault taken) words input output means faulty = not_faulty words means.asks.0 faulty.0 means.asks.1 faulty.1
 usage_comes (WriteFault sent) words input output means faulty = not_faulty words means.produces.wanted faulty.0 means.produces.asks faulty.1
 
 -- the same words ask for the same settings, and so read in the same way
@@ -104,18 +104,18 @@ same_settings words one other asks asks_too = cc
 
 same_reading : (words : List (List ℕ)) (one : Settings) (options : Options) → AskFor words one → AskToRead words options → reads_by one ≡ Some options
 same_reading words one options asks reads =
-    let e : one ≡ reads.0 = same_settings words one reads.0 asks reads.1.0 in ap reads_by e ∙ reads.1.1
+    let e : one ≡ reads.0 = same_settings words one reads.0 asks reads.1 in ap reads_by e ∙ reads.2
 
 same_options : (words : List (List ℕ)) (one other : Options) → AskToRead words one → AskToRead words other → one ≡ other
 same_options words one other asks asks_too =
-    let e : reads_by asks.0 ≡ Some other = same_reading words asks.0 other asks.1.0 asks_too in
-    let f : reads_by asks.0 ≡ Some one = asks.1.1 in cc
+    let e : reads_by asks.0 ≡ Some other = same_reading words asks.0 other asks.1 asks_too in
+    let f : reads_by asks.0 ≡ Some one = asks.2 in cc
 
 -- words that ask for a command that reads no text ask for none that reads one
 not_both_ways : {B : Type 0} (words : List (List ℕ)) (options : Options) → AskToMake words → AskToRead words options → B
 not_both_ways words options makes reads =
-    let e : reads_by makes.0 ≡ Some options = same_reading words makes.0 options makes.1.0 reads in
-    let f : reads_by makes.0 ≡ None = makes.1.1 in absurd (cc)
+    let e : reads_by makes.0 ≡ Some options = same_reading words makes.0 options makes.1 reads in
+    let f : reads_by makes.0 ≡ None = makes.2 in absurd (cc)
 
 -- the text that was read to its end is that which was left
 text_left : (before after : Option (List ℕ)) (limit : ℕ) (text left : List ℕ) → before ≡ Some left → ReadsToEnd before after limit text → text ≡ left
@@ -153,7 +153,7 @@ refused_then (Refused refusal) words input output options left means asks calm e
 refused_then OutOfMemory words input output options left means asks calm e bad = inr refl
 refused_then (Done found) words input output options left means asks calm e bad =
     absurd (bad (accepted words input (status_by found) means.written left options asks e means.produces))
-refused_then (Usage fault) words input output options left means asks calm e bad = not_faulty words asks.0 fault asks.1.0 means
+refused_then (Usage fault) words input output options left means asks calm e bad = not_faulty words asks.0 fault asks.1 means
 refused_then (ReadFault taken) words input output options left means asks calm e bad = absurd (calm means.failed.rose)
 refused_then (WriteFault sent) words input output options left means asks calm e bad =
     absurd (bad (accepted words input means.status means.written left options asks e means.produces))
@@ -166,9 +166,9 @@ not_refused TooLong input options left refuses e good =
     let there : TakesFirst (Some left) input.after (input_limit + 1) = subst P e refuses in
     absurd (omega (arith, there.0, good.within))
 not_refused (Text fault) input options left refuses e good =
-    let all : refuses.0 ≡ left = text_left input.before input.after input_limit refuses.0 left e refuses.1.0 in
+    let all : refuses.0 ≡ left = text_left input.before input.after input_limit refuses.0 left e refuses.1 in
     let Q : List ℕ → Type 0 = λ l. RefusedFor l options fault.kind fault.line fault.column in
-    let there : RefusedFor left options fault.kind fault.line fault.column = subst Q all refuses.1.1 in
+    let there : RefusedFor left options fault.kind fault.line fault.column = subst Q all refuses.2 in
     let read : Reads left options good.program = good.read in
     absurd (cc)
 
@@ -177,7 +177,7 @@ done_then : (answer : Answer) (words : List (List ℕ)) (input output : Moved) (
     IsDoneUnlessMemory (status_of answer)
 done_then (Done found) words input output options left means asks calm quiet e good = done_or_memory found
 done_then OutOfMemory words input output options left means asks calm quiet e good = inr (inr refl)
-done_then (Usage fault) words input output options left means asks calm quiet e good = not_faulty words asks.0 fault asks.1.0 means
+done_then (Usage fault) words input output options left means asks calm quiet e good = not_faulty words asks.0 fault asks.1 means
 done_then (Refused refusal) words input output options left means asks calm quiet e good =
     let same : means.options ≡ options = same_options words means.options options means.asks asks in
     let P : Options → Type 0 = λ o. Refuses o input refusal in
@@ -214,10 +214,10 @@ makes_zero (settings.Bench window workers seed qubits gates) text status output 
 pub made_comes : (answer : Answer) (words : List (List ℕ)) (input output : Moved) → Means words input output answer → AskToMake words →
     (HasFaulted output → ⊥) → IsUnlessMemory (status_of answer) 0
 made_comes (Done found) words input output means asks quiet =
-    let same : means.produces.wanted ≡ asks.0 = same_settings words means.produces.wanted asks.0 means.produces.asks asks.1.0 in
-    inl (makes_zero means.produces.wanted means.produces.text (status_by found) means.written (ap reads_by same ∙ asks.1.1) means.produces.makes)
+    let same : means.produces.wanted ≡ asks.0 = same_settings words means.produces.wanted asks.0 means.produces.asks asks.1 in
+    inl (makes_zero means.produces.wanted means.produces.text (status_by found) means.written (ap reads_by same ∙ asks.2) means.produces.makes)
 made_comes OutOfMemory words input output means asks quiet = inr refl
-made_comes (Usage fault) words input output means asks quiet = not_faulty words asks.0 fault asks.1.0 means
+made_comes (Usage fault) words input output means asks quiet = not_faulty words asks.0 fault asks.1 means
 made_comes (Refused refusal) words input output means asks quiet = not_both_ways words means.options asks means.asks
 made_comes (ReadFault taken) words input output means asks quiet = not_both_ways words means.options asks means.asks
 made_comes (WriteFault sent) words input output means asks quiet = absurd (quiet means.failed.rose)

@@ -40,14 +40,14 @@ written_means words wanted input output made (WriteFault sent) asks gives writes
 written_means words wanted input output made _ asks gives writes = absurd writes
 
 some_way : (way : Option Options) → IsSome way → (options : Options) × (way ≡ Some options)
-some_way None some = absurd some
+some_way None some = absurd (cc)
 some_way (Some options) some = (options, refl)
 
 -- none was made
 pub failed_means : (words : List (List ℕ)) (wanted : Settings) (input output : Moved) (answer : Answer) → AskFor words wanted →
     FailsFor wanted input answer → Means words input output answer
 failed_means words wanted input output (Refused refusal) asks fails =
-    record { options = fails.0; asks = (wanted, asks, fails.1.0); refuses = fails.1.1 }
+    record { options = fails.0; asks = (wanted, asks, fails.1); refuses = fails.2 }
 failed_means words wanted input output (ReadFault taken) asks fails =
     let way : (options : Options) × (reads_by wanted ≡ Some options) = some_way (reads_by wanted) fails.0 in
     record { options = way.0; asks = (wanted, asks, way.1); failed = fails.1 }
@@ -68,9 +68,9 @@ failed_moves wanted input _ fails leaves = leaves
 -- words that ask for a command that reads no text ask for these settings
 pub asked_to_make : (words : List (List ℕ)) (wanted : Settings) → AskFor words wanted → AskToMake words → reads_by wanted ≡ None
 asked_to_make words wanted asks makes =
-    let e : asked words ≡ Ok makes.0 = makes.1.0 in
+    let e : asked words ≡ Ok makes.0 = makes.1 in
     let f : wanted ≡ makes.0 = cc in
-    ap reads_by f ∙ makes.1.1
+    ap reads_by f ∙ makes.2
 
 -- What a text gives, where a command reads it.
 
@@ -99,6 +99,6 @@ answered_fails wanted options input text (Err errors.OutOfMemory) result way rea
 pub fails_to_read : (wanted : Settings) (options : Options) (input : Moved) (answer : Answer) → reads_by wanted ≡ Some options →
     FailsToRead input answer → FailsFor wanted input answer
 fails_to_read wanted options input (Refused TooLong) way fails = (options, way, fails)
-fails_to_read wanted options input (ReadFault taken) way fails = (subst (λ (o : Option Options). IsSome o) (sym way) tt, fails)
+fails_to_read wanted options input (ReadFault taken) way fails = (subst (λ (o : Option Options). IsSome o) (sym way) refl, fails)
 fails_to_read wanted options input OutOfMemory way fails = tt
 fails_to_read wanted options input _ way fails = absurd fails

@@ -1,4 +1,4 @@
-ghost use Rattle.std.specs.Prelude.{◌≡◌, ◌+◌, ◌-◌, ◌*◌, ◌≤◌, length, IfOk, IfErr};
+ghost use Rattle.std.specs.Prelude.{◌≡◌, false, ◌+◌, ◌-◌, ◌*◌, ◌≤◌, length, IfOk, IfErr};
 ghost use Rattle.pq_loop.specs.Gaps.{first_fingers};
 ghost use Rattle.pq_loop.specs.Opt.{Opt, Local};
 ghost use Rattle.pq_read.specs.Reads.{IsRefusedFor};
@@ -19,6 +19,7 @@ use std::alloc::{AllocError, Global};
 
 /// The canonical text of the program that a text stands for, with the gates that rounds leave of its own, and
 /// then the report. Omega is 2 to 1,024.
+#[tactic(auto, using(crate::proofs::Optimising::formed_with, crate::proofs::Optimising::opt_text_by))]
 pub fn optimised(
     alloc: Global,
     text: ByteList,
@@ -82,6 +83,7 @@ pub fn generated_text(
 }
 
 /// The report on optimising the generated program.
+#[tactic(auto, using(crate::proofs::Optimising::bench_text_by))]
 pub fn benched(
     alloc: Global,
     omega: u32,
@@ -97,8 +99,10 @@ pub fn benched(
     ensures { IfOk result (λ text. IsBenchText omega seed qubits gates text.items) }
 {
     let program = generate(alloc, seed, qubits, gates)?;
+    let gates_in = program.gates.as_slice().len() as u64;
     let finished = run_rounds(alloc, program.gates.as_slice(), omega)?;
-    write_report(alloc, &report_on(u64::from(gates), &finished))
+    let report = report_on(gates_in, &finished);
+    write_report(alloc, &report)
 }
 
 // Makes rounds under the built-in rules, from the first fingers until there is no finger.
