@@ -197,12 +197,12 @@ refusal_comes answer words input output options means asks calm =
     where_told input.before (λ text. (IsAccepted options text → ⊥) → IsUnlessMemory (status_of answer) 3)
     (λ left e bad. refused_then answer words input output options left means asks calm e bad)
 
-pub done_comes : (answer : Answer) (words : List (List ℕ)) (input output : Moved) (options : Options) → Means words input output answer →
-    AskToRead words options → (HasFaulted input → ⊥) → (HasFaulted output → ⊥) →
-    IfSome input.before (λ text. IsAccepted options text → IsDoneUnlessMemory (status_of answer))
-done_comes answer words input output options means asks calm quiet =
-    where_told input.before (λ text. IsAccepted options text → IsDoneUnlessMemory (status_of answer))
-    (λ left e good. done_then answer words input output options left means asks calm quiet e good)
+pub done_comes : (answer : Answer) (status : ℕ) (words : List (List ℕ)) (input output : Moved) (options : Options) → status ≡ status_of answer →
+    Means words input output answer → AskToRead words options → (HasFaulted input → ⊥) → (HasFaulted output → ⊥) →
+    IfSome input.before (λ text. IsAccepted options text → IsDoneUnlessMemory status)
+done_comes answer status words input output options is means asks calm quiet =
+    where_told input.before (λ text. IsAccepted options text → IsDoneUnlessMemory status)
+    (λ left e good. subst IsDoneUnlessMemory (sym is) (done_then answer words input output options left means asks calm quiet e good))
 
 -- a command that reads no text has the status 0
 makes_zero : (wanted : Settings) (text : List ℕ) (status : ℕ) (output : List ℕ) → reads_by wanted ≡ None → Makes wanted text status output → status ≡ 0

@@ -14,7 +14,7 @@ use std::alloc::{AllocError, Global};
 
 /// Names the first redex of the program that a text stands for whose span is at most Omega, or says that
 /// there is none. Beside the program and the rules it takes memory for one line. Omega is 2 to 1,024.
-#[tactic(auto, using(crate::proofs::Checking::names_redex, crate::proofs::Checking::says_local))]
+#[tactic(auto, using(crate::proofs::Checking::names_redex))]
 pub fn checked(
     alloc: Global,
     text: ByteList,

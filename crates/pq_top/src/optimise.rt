@@ -19,7 +19,7 @@ use std::alloc::{AllocError, Global};
 
 /// The canonical text of the program that a text stands for, with the gates that rounds leave of its own, and
 /// then the report. Omega is 2 to 1,024.
-#[tactic(auto, using(crate::proofs::Optimising::formed_with, crate::proofs::Optimising::opt_text_by))]
+#[tactic(auto, using(crate::proofs::Optimising::formed_with))]
 pub fn optimised(
     alloc: Global,
     text: ByteList,
@@ -83,7 +83,6 @@ pub fn generated_text(
 }
 
 /// The report on optimising the generated program.
-#[tactic(auto, using(crate::proofs::Optimising::bench_text_by))]
 pub fn benched(
     alloc: Global,
     omega: u32,
