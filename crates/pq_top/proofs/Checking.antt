@@ -214,12 +214,15 @@ pub names_redex : (w : ℕ) (text output : List ℕ) (options : Options) (p : Pr
 names_redex w text output options p rules gates redex is rules_are read found written = record {
   program = view p;
   read = read;
-  says = inr (refl, record {
-    redex = seen redex found.wires;
-    first = first;
-    not_local = redex_not_local builtin_rows w p.gates.items (seen redex found.wires) first.is first.within;
-    written = written found.wires;
-  });
+  says = inr (
+    refl,
+    record {
+      redex = seen redex found.wires;
+      first = first;
+      not_local = redex_not_local builtin_rows w p.gates.items (seen redex found.wires) first.is first.within;
+      written = written found.wires;
+    },
+  );
 }
   where
     first : IsFirst builtin_rows p.gates.items w (seen redex found.wires)

@@ -18,27 +18,6 @@ use Rattle.pq_top.specs.Request.{AskFor, AskToMake, reads_by}
 use Rattle.pq_top.specs.Answers.{HasRead, Produces}
 use Rattle.pq_top.specs.Work.{Means, LeavesSource, LeavesSink, Gives, FailsFor, FailsToRead, WritesOutput, status_by, answered_by}
 
--- an output that was made of what the words ask for
-produces_by : (words : List (List ℕ)) (wanted : Settings) (input : Moved) (made : Output) → AskFor words wanted → Gives wanted input made →
-    Produces words input (status_by made.found) made.text.items
-produces_by words wanted input made asks gives = record { wanted = wanted; asks = asks; text = gives.text; reads = gives.reads; makes = gives.makes }
-
--- and was written
-pub written_means : (words : List (List ℕ)) (wanted : Settings) (input output : Moved) (made : Output) (answer : Answer) → AskFor words wanted →
-    Gives wanted input made → WritesOutput output made answer → Means words input output answer
-written_means words wanted input output made (Done found) asks gives writes = record {
-  written = made.text.items;
-  produces = subst (λ (b : Bool). Produces words input (status_by b) made.text.items) (sym writes.0) (produces_by words wanted input made asks gives);
-  holds = writes.1;
-}
-written_means words wanted input output made (WriteFault sent) asks gives writes = record {
-  status = status_by made.found;
-  written = made.text.items;
-  produces = produces_by words wanted input made asks gives;
-  failed = writes;
-}
-written_means words wanted input output made _ asks gives writes = absurd writes
-
 some_way : (way : Option Options) → IsSome way → (options : Options) × (way ≡ Some options)
 some_way None some = absurd (cc)
 some_way (Some options) some = (options, refl)
@@ -54,37 +33,7 @@ failed_means words wanted input output (ReadFault taken) asks fails =
 failed_means words wanted input output OutOfMemory asks fails = tt
 failed_means words wanted input output _ asks fails = absurd fails
 
--- where the output was written the source and the sink aren't as they were
-pub written_moves : (output : Moved) (made : Output) (answer : Answer) → WritesOutput output made answer → (LeavesSource answer → ⊥) × (LeavesSink answer → ⊥)
-written_moves output made (Done found) writes = (λ leaves. leaves, λ leaves. leaves)
-written_moves output made (WriteFault sent) writes = (λ leaves. leaves, λ leaves. leaves)
-written_moves output made _ writes = absurd writes
-
--- nor is the source where it failed
-pub failed_moves : (wanted : Settings) (input : Moved) (answer : Answer) → FailsFor wanted input answer → LeavesSource answer → ⊥
-failed_moves wanted input (Usage fault) fails leaves = fails
-failed_moves wanted input _ fails leaves = leaves
-
--- words that ask for a command that reads no text ask for these settings
-pub asked_to_make : (words : List (List ℕ)) (wanted : Settings) → AskFor words wanted → AskToMake words → reads_by wanted ≡ None
-asked_to_make words wanted asks makes =
-    let e : asked words ≡ Ok makes.0 = makes.1 in
-    let f : wanted ≡ makes.0 = cc in
-    ap reads_by f ∙ makes.2
-
--- What a text gives, where a command reads it.
-
-pub answered_gives : (wanted : Settings) (options : Options) (input : Moved) (text : List ℕ) (made : Result Output ReadError) (result : Result Output Answer) →
-    reads_by wanted ≡ Some options → ReadsToEnd input.before input.after input_limit text → result ≡ answered_by made →
-    IfOk made (λ output. Makes wanted text (status_by output.found) output.text.items) → IfOk result (Gives wanted input)
-answered_gives wanted options input text (Ok output) result way reads e makes =
-    let P : Result Output Answer → Type 0 = λ r. IfOk r (Gives wanted input) in
-    let Q : Option Options → Type 0 = λ o. HasRead o input text in
-    let gives : Gives wanted input output = record { text = text; reads = subst Q (sym way) reads; makes = makes } in
-    subst P (sym e) gives
-answered_gives wanted options input text (Err (errors.Refused fault)) result way reads e makes = subst (λ (r : Result Output Answer). IfOk r (Gives wanted input)) (sym e) tt
-answered_gives wanted options input text (Err errors.OutOfMemory) result way reads e makes = subst (λ (r : Result Output Answer). IfOk r (Gives wanted input)) (sym e) tt
-
+-- a text that is refused is none for the command that reads it
 pub answered_fails : (wanted : Settings) (options : Options) (input : Moved) (text : List ℕ) (made : Result Output ReadError) (result : Result Output Answer) →
     reads_by wanted ≡ Some options → ReadsToEnd input.before input.after input_limit text → result ≡ answered_by made →
     IfErr made (TextRefusedFor text options) → IfErr result (FailsFor wanted input)

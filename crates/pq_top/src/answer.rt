@@ -90,11 +90,7 @@ fn written<K: Sink>(sink: &mut K, output: &Output) -> Answer
 }
 
 /// What a command makes, of the text that the source gives where it reads one.
-fn output_of<S: Source>(
-    alloc: Global,
-    settings: Settings,
-    source: &mut S,
-) -> Result<Output, Answer>
+fn output_of<S: Source>(alloc: Global, settings: Settings, source: &mut S) -> Result<Output, Answer>
     requires { IsInRange settings }
     ensures output { IfOk result (Gives settings (moved S.left S.faults source.old source.new)) }
     ensures fault { IfErr result (FailsFor settings (moved S.left S.faults source.old source.new)) }

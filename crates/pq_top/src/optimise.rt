@@ -48,12 +48,12 @@ pub fn optimised(
 /// The report on what rounds left of so many gates.
 fn report_on(gates_in: u64, finished: &Finished) -> Report
     ensures { result ≡ record {
-        gates_in = gates_in;
-        gates_out = length finished.now.gates.items;
-        rounds = finished.now.rounds;
-        calls = finished.now.calls;
-        first_fingers = finished.now.first_fingers;
-        phase = finished.now.phase;
+      gates_in = gates_in;
+      gates_out = length finished.now.gates.items;
+      rounds = finished.now.rounds;
+      calls = finished.now.calls;
+      first_fingers = finished.now.first_fingers;
+      phase = finished.now.phase;
     } }
 {
     Report {
