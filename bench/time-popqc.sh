@@ -19,7 +19,7 @@ awk -v gates="$gates" 'BEGIN {
 }' > "$text"
 for _ in 1 2 3 4 5; do
   start=$(date +%s%N)
-  "$program" "$omega" < "$text" > /dev/null
+  "$program" opt --omega "$omega" < "$text" > /dev/null
   end=$(date +%s%N)
   echo "$gates gates with Omega $omega in $(( (end - start) / 1000000 )) ms, $(( (end - start) / gates )) ns a gate"
 done

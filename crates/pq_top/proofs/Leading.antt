@@ -9,7 +9,7 @@ use Rattle.pq_loop.specs.Gaps.{first_fingers}
 use Rattle.pq_loop.specs.Loops.{LoopView}
 use Rattle.pq_loop.specs.Round.{State, Round}
 use Rattle.pq_loop.specs.Opt.{Total, settled, after_round, Rounds, done, round, first_state, Opt}
-use Rattle.pq_top.specs.Optimised.{total_of}
+use Rattle.pq_top.specs.Outputs.{total_of}
 
 -- what rounds leave, with the numbers of the loop's rounds in front
 abbrev pub with_rounds : LoopView → Total → Total

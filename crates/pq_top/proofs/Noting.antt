@@ -1,5 +1,5 @@
 -- Notes that are put piece by piece.
-use Rattle.std.proofs.Common.{◌≡◌, ℕ, suc, ◌+◌, ◌<◌, ◌≤◌, List, ◌++◌, length, take, drop, get_or, Option, inl, inr, sym, ap, ◌∙◌, subst, arith, add-one, drop-cons, codes, decimal}
+use Rattle.std.proofs.Common.{◌≡◌, ℕ, suc, ◌+◌, ◌<◌, ◌≤◌, List, ◌++◌, length, take, drop, get_or, Option, inl, inr, sym, ap, ◌∙◌, subst, arith, add-one, drop-cons, append_assoc, codes, decimal}
 use Rattle.std.specs.List.{flat_map}
 use Rattle.std.specs.Io.KnownBytes.{Appends}
 use Rattle.std.proofs.KnownBytes.{Appends-trans}
@@ -11,8 +11,11 @@ use Rattle.pq_io.specs.Faults.{Rose}
 use Rattle.pq_io.specs.Whole.{WritesUpToFault}
 use Rattle.pq_read.specs.Kinds.{number_of, name_of}
 use Rattle.pq_read.specs.declared.refusal.Refusal.{Refusal as Fault}
+use Rattle.pq_command.specs.CommandLine.{name_of as switch_name}
+use Rattle.pq_command.specs.declared.fault.Switch.{Switch}
+use Rattle.pq_command.specs.declared.fault.UsageFault.{UsageFault}
 use Rattle.pq_top.specs.Device.{Moved, Noted}
-use Rattle.pq_top.specs.Notes.{fault_line}
+use Rattle.pq_top.specs.Notes.{fault_line, usage_text, usage_line}
 
 -- the pieces before one, that one, and those after it
 pub around : {X : Type 0} (f : X → List ℕ) (xs : List X) (i : ℕ) (d : X) → i < length xs
@@ -56,3 +59,15 @@ unfolding fault_line
 fault_noted device fault number name e f noted =
     subst (λ n. Noted device (codes "popqc: refused " ++ (decimal n ++ (codes " " ++ (name_of fault.kind ++ (codes " at " ++ (decimal fault.line ++ (codes ":" ++ (decimal fault.column ++ codes "\n"))))))))) e
     (subst (λ l. Noted device (codes "popqc: refused " ++ (decimal number ++ (codes " " ++ (l ++ (codes " at " ++ (decimal fault.line ++ (codes ":" ++ (decimal fault.column ++ codes "\n"))))))))) f noted)
+
+-- the pieces of the line of a fault of the words
+pub switch_noted : (device : Moved) (fault name : List ℕ) (switch : Switch) → name ≡ switch_name switch
+    → Noted device (codes "popqc: usage: " ++ (fault ++ (name ++ codes "\n"))) → Noted device (codes "popqc: usage: " ++ (fault ++ (switch_name switch ++ codes "\n")))
+switch_noted device fault name switch e noted =
+    subst (λ l. Noted device (codes "popqc: usage: " ++ (fault ++ (l ++ codes "\n")))) e noted
+
+pub usage_noted : (device : Moved) (said name : List ℕ) (fault : UsageFault) → usage_text fault ≡ said ++ name
+    → Noted device (codes "popqc: usage: " ++ (said ++ (name ++ codes "\n"))) → Noted device (usage_line fault)
+unfolding usage_line
+usage_noted device said name fault e noted =
+    subst (λ l. Noted device (codes "popqc: usage: " ++ l)) (sym (append_assoc said name (codes "\n")) ∙ ap (λ l. l ++ codes "\n") (sym e)) noted

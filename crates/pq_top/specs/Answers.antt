@@ -1,70 +1,84 @@
 -- What each status says.
-use Rattle.std.specs.Prelude.{◌≡◌, ℕ, ◌+◌, ◌⊎◌, List, Ok, Err}
+use Rattle.std.specs.Prelude.{◌≡◌, ℕ, ◌+◌, ◌⊎◌, List, Option, Some, None, Err}
 use Rattle.std.specs.Io.KnownBytes.{Appends}
 use Rattle.pq_io.specs.Whole.{ReadsToEnd, ReadsUpToFault, WritesUpToFault, TakesFirst}
+use Rattle.pq_read.specs.declared.program.Options.{Options}
 use Rattle.pq_read.specs.Reads.{Refused}
-use Rattle.pq_top.specs.declared.words.UsageFault.{UsageFault}
+use Rattle.pq_command.specs.declared.fault.UsageFault.{UsageFault}
+use Rattle.pq_command.specs.declared.settings.Settings.{Settings}
+use Rattle.pq_command.specs.Asked.{asked}
 use Rattle.pq_top.specs.declared.answer.Refusal.{Refusal}
 use Rattle.pq_top.specs.declared.answer.Refusal.TheVariants.{Text, TooLong}
 use Rattle.pq_top.specs.Device.{Moved, Noted}
-use Rattle.pq_top.specs.Request.{Asks, AreGood}
-use Rattle.pq_top.specs.Optimised.{options, IsOptimised, input_limit}
+use Rattle.pq_top.specs.Request.{AskFor, AskToRead, reads_by}
+use Rattle.pq_top.specs.Outputs.{Makes, input_limit}
 use Rattle.pq_top.specs.Notes.{usage_line, refusal_line, read_fault_line, write_fault_line}
 
--- The words are good and ask for Omega, and the source was read to its end and gave this text, which is accepted;
--- the output is its optimised one with this Omega.
-pub record Reads (words : List (List ℕ)) (input : Moved) (text output : List ℕ) : Type 0 where
-  pub omega : ℕ
-  pub good : Asks words (Ok omega)
-  pub whole : ReadsToEnd input.before input.after input_limit text
-  pub optimised : IsOptimised omega text output
+-- where a command reads a text, the source was read to its end and gave this one
+abbrev pub HasRead : Option Options → Moved → List ℕ → Type 0
+HasRead None input text = Unit {0}
+HasRead (Some options) input text = ReadsToEnd input.before input.after input_limit text
 
--- An accepted text was read to its end, and the sink holds its optimised one more.
-pub record IsDone (words : List (List ℕ)) (input output : Moved) : Type 0 where
+-- The words ask for these settings, the text that they want was read to its end, and this status and this output
+-- come of it.
+pub record Produces (words : List (List ℕ)) (input : Moved) (status : ℕ) (output : List ℕ) : Type 0 where
+  pub wanted : Settings
+  pub asks : AskFor words wanted
   pub text : List ℕ
+  pub reads : HasRead (reads_by wanted) input text
+  pub makes : Makes wanted text status output
+
+-- The command was done, and the sink holds its whole output more.
+pub record IsDone (words : List (List ℕ)) (input output : Moved) (status : ℕ) : Type 0 where
   pub written : List ℕ
-  pub reads : Reads words input text written
+  pub produces : Produces words input status written
   pub holds : Appends output.before output.after written
 
 -- The words have a fault, and the note names it.
 pub record IsUsage (words : List (List ℕ)) (notes : Moved) : Type 0 where
   pub fault : UsageFault
-  pub asks : Asks words (Err fault)
+  pub asks : asked words ≡ Err fault
   pub noted : Noted notes (usage_line fault)
 
 -- The source gave more bytes than the limit; or it was read to its end, and this is the first fault of its text.
-abbrev pub Refuses : Moved → Refusal → Type 0
-Refuses input TooLong = TakesFirst input.before input.after (input_limit + 1)
-Refuses input (Text fault) = (text : List ℕ) × ReadsToEnd input.before input.after input_limit text × Refused text options fault.kind fault.line fault.column
+abbrev pub Refuses : Options → Moved → Refusal → Type 0
+Refuses options input TooLong = TakesFirst input.before input.after (input_limit + 1)
+Refuses options input (Text fault) = (text : List ℕ) × ReadsToEnd input.before input.after input_limit text × Refused text options fault.kind fault.line fault.column
 
--- The words are good, the source is refused, and the note says why.
+-- The words ask for a command that reads a text, the source is refused, and the note says why.
 pub record IsRefused (words : List (List ℕ)) (input notes : Moved) : Type 0 where
   pub refusal : Refusal
-  pub good : AreGood words
-  pub refuses : Refuses input refusal
+  pub options : Options
+  pub asks : AskToRead words options
+  pub refuses : Refuses options input refusal
   pub noted : Noted notes (refusal_line refusal)
 
--- The words are good, the source failed after so many bytes, and the note has this number.
+-- The words ask for a command that reads a text, the source failed after so many bytes, and the note has this
+-- number.
 pub record IsReadFault (words : List (List ℕ)) (input notes : Moved) : Type 0 where
   pub taken : ℕ
-  pub good : AreGood words
+  pub options : Options
+  pub asks : AskToRead words options
   pub failed : ReadsUpToFault input.before input.after input.was input.now input_limit taken
   pub noted : Noted notes (read_fault_line taken)
 
--- An accepted text was read to its end, the sink failed after so many bytes of its optimised one, and the
--- note has this number.
+-- The output was made, the sink failed after so many bytes of it, and the note has this number.
 pub record IsWriteFault (words : List (List ℕ)) (input output notes : Moved) : Type 0 where
   pub sent : ℕ
-  pub text : List ℕ
+  pub status : ℕ
   pub written : List ℕ
-  pub reads : Reads words input text written
+  pub produces : Produces words input status written
   pub failed : WritesUpToFault output.before output.after output.was output.now written sent
   pub noted : Noted notes (write_fault_line sent)
 
 -- the statuses that there are
 abbrev pub IsStatus : ℕ → Type 0
-IsStatus status = (status ≡ 0) ⊎ ((status ≡ 2) ⊎ ((status ≡ 3) ⊎ ((status ≡ 4) ⊎ ((status ≡ 5) ⊎ (status ≡ 6)))))
+IsStatus status = (status ≡ 0) ⊎ ((status ≡ 1) ⊎ ((status ≡ 2) ⊎ ((status ≡ 3) ⊎ ((status ≡ 4) ⊎ ((status ≡ 5) ⊎ (status ≡ 6))))))
 
 -- it is this status, unless memory ran out
 abbrev pub IsUnlessMemory : ℕ → ℕ → Type 0
 IsUnlessMemory status wanted = (status ≡ wanted) ⊎ (status ≡ 6)
+
+-- the command was done, unless memory ran out
+abbrev pub IsDoneUnlessMemory : ℕ → Type 0
+IsDoneUnlessMemory status = (status ≡ 0) ⊎ ((status ≡ 1) ⊎ (status ≡ 6))

@@ -2,8 +2,9 @@
 use Rattle.std.specs.Prelude.{ℕ, List, ◌++◌, codes, decimal}
 use Rattle.pq_read.specs.Kinds.{number_of, name_of}
 use Rattle.pq_read.specs.declared.refusal.Refusal.{Refusal as Fault}
-use Rattle.pq_top.specs.declared.words.UsageFault.{UsageFault}
-use Rattle.pq_top.specs.declared.words.UsageFault.TheVariants.{Words, NumberOmega, RangeOmega}
+use Rattle.pq_command.specs.CommandLine.{name_of as switch_name}
+use Rattle.pq_command.specs.declared.fault.UsageFault.{UsageFault}
+use Rattle.pq_command.specs.declared.fault.UsageFault.TheVariants.{Words, Command, Unwanted, Missing, Number, Range}
 use Rattle.pq_top.specs.declared.notes.Piece.{Piece}
 use Rattle.pq_top.specs.declared.notes.Piece.TheVariants as pieces
 use Rattle.pq_top.specs.declared.answer.Refusal.{Refusal}
@@ -14,10 +15,17 @@ abbrev pub piece_text : Piece → List ℕ
 piece_text (pieces.Text text) = text.now
 piece_text (pieces.Number number) = decimal number
 
+-- a fault of the words
+abbrev pub usage_text : UsageFault → List ℕ
+usage_text Words = codes "words"
+usage_text Command = codes "command"
+usage_text (Unwanted switch) = codes "unwanted " ++ switch_name switch
+usage_text (Missing switch) = codes "missing " ++ switch_name switch
+usage_text (Number switch) = codes "number " ++ switch_name switch
+usage_text (Range switch) = codes "range " ++ switch_name switch
+
 unfoldable pub usage_line : UsageFault → List ℕ
-usage_line Words = codes "popqc: usage: words\n"
-usage_line NumberOmega = codes "popqc: usage: number omega\n"
-usage_line RangeOmega = codes "popqc: usage: range omega\n"
+usage_line fault = codes "popqc: usage: " ++ (usage_text fault ++ codes "\n")
 
 -- `NUMBER KIND at LINE:COLUMN`
 unfoldable pub fault_line : Fault → List ℕ

@@ -1,32 +1,30 @@
 -- What the words after the program's name ask for.
-use Rattle.std.specs.Prelude.{◌≡◌, ◌≢◌, ℕ, ◌<◌, ◌≤◌, List, [], ◌∷◌, length, All, Result, Ok, Err}
-use Rattle.std.specs.Char.{IsAsciiDigit}
-use Rattle.std.specs.Str.Parse.{digits_value}
-use Rattle.pq_top.specs.declared.words.UsageFault.{UsageFault}
-use Rattle.pq_top.specs.declared.words.UsageFault.TheVariants.{Words, NumberOmega, RangeOmega}
+use Rattle.std.specs.Prelude.{◌≡◌, List, Option, Some, None, Ok, Err, ℕ}
+use Rattle.pq_read.specs.declared.program.Options.{Options}
+use Rattle.pq_command.specs.declared.fault.UsageFault.{UsageFault}
+use Rattle.pq_command.specs.declared.settings.Settings.{Settings}
+use Rattle.pq_command.specs.declared.settings.Settings.TheVariants as settings
+use Rattle.pq_command.specs.Asked.{asked}
 
--- 1 to 20 decimal digits
-pub record IsNumber (word : List ℕ) : Type 0 where
-  pub some : 0 < length word
-  pub short : length word ≤ 20
-  pub digits : All IsAsciiDigit word
-
--- from 2 to 1,024
-pub record IsOmega (value : ℕ) : Type 0 where
-  pub least : 2 ≤ value
-  pub greatest : value ≤ 1024
-
--- The words are one word, a number from 2 to 1,024: the window length Omega. Else they have a fault.
-abbrev pub Asks : List (List ℕ) → Result ℕ UsageFault → Type 0
-Asks words (Ok omega) = (word : List ℕ) × (words ≡ word ∷ []) × IsNumber word × (omega ≡ digits_value 10 word) × IsOmega omega
-Asks words (Err Words) = length words ≢ 1
-Asks words (Err NumberOmega) = (word : List ℕ) × (words ≡ word ∷ []) × ¬ IsNumber word
-Asks words (Err RangeOmega) = (word : List ℕ) × (words ≡ word ∷ []) × IsNumber word × ¬ IsOmega (digits_value 10 word)
-
--- the words have no fault
-abbrev pub AreGood : List (List ℕ) → Type 0
-AreGood words = (omega : ℕ) × Asks words (Ok omega)
+-- the words ask for these settings
+abbrev pub AskFor : List (List ℕ) → Settings → Type 0
+AskFor words wanted = asked words ≡ Ok wanted
 
 -- the words have a fault
 abbrev pub AreFaulty : List (List ℕ) → Type 0
-AreFaulty words = (fault : UsageFault) × Asks words (Err fault)
+AreFaulty words = (fault : UsageFault) × (asked words ≡ Err fault)
+
+-- how a command reads the text that the source gives, none where it reads no text
+abbrev pub reads_by : Settings → Option Options
+reads_by (settings.Opt omega workers drop_barriers) = Some (record { drop_barriers = drop_barriers })
+reads_by (settings.Check omega drop_barriers) = Some (record { drop_barriers = drop_barriers })
+reads_by (settings.Gen seed qubits gates) = None
+reads_by (settings.Bench omega workers seed qubits gates) = None
+
+-- the words ask for a command that reads a text in this way
+abbrev pub AskToRead : List (List ℕ) → Options → Type 0
+AskToRead words options = (wanted : Settings) × AskFor words wanted × (reads_by wanted ≡ Some options)
+
+-- the words ask for a command that reads no text
+abbrev pub AskToMake : List (List ℕ) → Type 0
+AskToMake words = (wanted : Settings) × AskFor words wanted × (reads_by wanted ≡ None)

@@ -1,36 +1,50 @@
 -- What came of the work, before its note is put and its status answered.
-use Rattle.std.specs.Prelude.{ℕ, List, [], Err}
-use Rattle.pq_io.specs.Whole.{ReadsUpToFault, WritesUpToFault}
+use Rattle.std.specs.Prelude.{◌≡◌, ℕ, ◌+◌, Bool, if◌then◌else◌, List, [], Some, IsSome, Result, Ok, Err}
+use Rattle.std.specs.Io.KnownBytes.{Appends}
+use Rattle.pq_io.specs.Whole.{ReadsUpToFault, WritesUpToFault, TakesFirst}
+use Rattle.pq_read.specs.declared.program.Options.{Options}
+use Rattle.pq_read.specs.declared.refusal.ReadError.{ReadError}
+use Rattle.pq_read.specs.declared.refusal.ReadError.TheVariants as errors
+use Rattle.pq_command.specs.declared.settings.Settings.{Settings}
+use Rattle.pq_command.specs.Asked.{asked}
 use Rattle.pq_top.specs.declared.answer.Answer.{Answer}
+use Rattle.pq_top.specs.declared.answer.Output.{Output}
 use Rattle.pq_top.specs.declared.answer.Refusal.{Refusal}
+use Rattle.pq_top.specs.declared.answer.Refusal.TheVariants.{Text, TooLong}
 use Rattle.pq_top.specs.declared.answer.Answer.TheVariants.{Done, Usage, Refused, ReadFault, WriteFault, OutOfMemory}
 use Rattle.pq_top.specs.Device.{Moved}
-use Rattle.pq_top.specs.Request.{Asks, AreGood}
-use Rattle.pq_top.specs.Optimised.{input_limit}
+use Rattle.pq_top.specs.Request.{AskFor, AskToRead, reads_by}
+use Rattle.pq_top.specs.Outputs.{Makes, input_limit}
 use Rattle.pq_top.specs.Notes.{usage_line, refusal_line, read_fault_line, write_fault_line, out_of_memory_line}
-use Rattle.pq_top.specs.Answers.{Reads, IsDone, Refuses}
+use Rattle.pq_top.specs.Answers.{HasRead, Produces, IsDone, Refuses}
 
--- the words are good, and the source is refused for this reason
+-- the words ask for a command that reads a text, and the source is refused for this reason
 pub record IsRefusedFor (words : List (List ℕ)) (input : Moved) (refusal : Refusal) : Type 0 where
-  pub good : AreGood words
-  pub refuses : Refuses input refusal
+  pub options : Options
+  pub asks : AskToRead words options
+  pub refuses : Refuses options input refusal
 
--- the words are good, and the source failed after so many bytes
+-- the words ask for a command that reads a text, and the source failed after so many bytes
 pub record HasReadFault (words : List (List ℕ)) (input : Moved) (taken : ℕ) : Type 0 where
-  pub good : AreGood words
+  pub options : Options
+  pub asks : AskToRead words options
   pub failed : ReadsUpToFault input.before input.after input.was input.now input_limit taken
 
--- an accepted text was read to its end, and the sink failed after so many bytes of its optimised one
+-- the output was made, and the sink failed after so many bytes of it
 pub record HasWriteFault (words : List (List ℕ)) (input output : Moved) (sent : ℕ) : Type 0 where
-  pub text : List ℕ
+  pub status : ℕ
   pub written : List ℕ
-  pub reads : Reads words input text written
+  pub produces : Produces words input status written
   pub failed : WritesUpToFault output.before output.after output.was output.now written sent
+
+-- the status of work that was done: 1 where it found a redex
+abbrev pub status_by : Bool → ℕ
+status_by found = if found then 1 else 0
 
 -- what an answer means, of the words, the source and the sink
 abbrev pub Means : List (List ℕ) → Moved → Moved → Answer → Type 0
-Means words input output Done = IsDone words input output
-Means words input output (Usage fault) = Asks words (Err fault)
+Means words input output (Done found) = IsDone words input output (status_by found)
+Means words input output (Usage fault) = asked words ≡ Err fault
 Means words input output (Refused refusal) = IsRefusedFor words input refusal
 Means words input output (ReadFault taken) = HasReadFault words input taken
 Means words input output (WriteFault sent) = HasWriteFault words input output sent
@@ -43,13 +57,18 @@ LeavesSource _ = ⊥
 
 -- the answers that come before the sink is written to
 abbrev pub LeavesSink : Answer → Type 0
-LeavesSink Done = ⊥
+LeavesSink (Done found) = ⊥
 LeavesSink (WriteFault sent) = ⊥
 LeavesSink _ = Unit {0}
 
+-- the answers that come before a line is noted, as there is none
+abbrev pub LeavesNotes : Answer → Type 0
+LeavesNotes (Done found) = Unit {0}
+LeavesNotes _ = ⊥
+
 -- the status of an answer
 abbrev pub status_of : Answer → ℕ
-status_of Done = 0
+status_of (Done found) = status_by found
 status_of (Usage fault) = 2
 status_of (Refused refusal) = 3
 status_of (ReadFault taken) = 4
@@ -58,9 +77,41 @@ status_of OutOfMemory = 6
 
 -- the line that is put into the notes, none where the work was done
 abbrev pub note_line : Answer → List ℕ
-note_line Done = []
+note_line (Done found) = []
 note_line (Usage fault) = usage_line fault
 note_line (Refused refusal) = refusal_line refusal
 note_line (ReadFault taken) = read_fault_line taken
 note_line (WriteFault sent) = write_fault_line sent
 note_line OutOfMemory = out_of_memory_line
+
+-- the source failed, or gave too many bytes, whatever the settings that make a command read it
+abbrev pub FailsToRead : Moved → Answer → Type 0
+FailsToRead input (Refused TooLong) = TakesFirst input.before input.after (input_limit + 1)
+FailsToRead input (ReadFault taken) = ReadsUpToFault input.before input.after input.was input.now input_limit taken
+FailsToRead input OutOfMemory = Unit {0}
+FailsToRead input _ = ⊥
+
+-- an output comes of the settings and the text that was read
+pub record Gives (wanted : Settings) (input : Moved) (output : Output) : Type 0 where
+  pub text : List ℕ
+  pub reads : HasRead (reads_by wanted) input text
+  pub makes : Makes wanted text (status_by output.found) output.text.items
+
+-- none does, since the command reads a text and the source failed or was refused, or memory was
+abbrev pub FailsFor : Settings → Moved → Answer → Type 0
+FailsFor wanted input (Refused refusal) = (options : Options) × (reads_by wanted ≡ Some options) × Refuses options input refusal
+FailsFor wanted input (ReadFault taken) = IsSome (reads_by wanted) × ReadsUpToFault input.before input.after input.was input.now input_limit taken
+FailsFor wanted input OutOfMemory = Unit {0}
+FailsFor wanted input _ = ⊥
+
+-- the output was written, or the sink failed
+abbrev pub WritesOutput : Moved → Output → Answer → Type 0
+WritesOutput device output (Done found) = (found ≡ output.found) × Appends device.before device.after output.text.items
+WritesOutput device output (WriteFault sent) = WritesUpToFault device.before device.after device.was device.now output.text.items sent
+WritesOutput device output _ = ⊥
+
+-- what a text gave, where its output isn't made with the answer for its fault
+abbrev pub answered_by : Result Output ReadError → Result Output Answer
+answered_by (Ok output) = Ok output
+answered_by (Err (errors.Refused fault)) = Err (Refused (Text fault))
+answered_by (Err errors.OutOfMemory) = Err OutOfMemory

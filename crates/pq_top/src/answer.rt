@@ -1,13 +1,19 @@
-ghost use Rattle.std.specs.Prelude.{◌≡◌, map};
+ghost use Rattle.std.specs.Prelude.{◌≡◌, None, map, IfOk, IfErr};
 ghost use Rattle.std.specs.String.{string_bytes};
+ghost use Rattle.pq_io.specs.Whole.{ReadsToEnd};
+ghost use Rattle.pq_command.specs.Ranges.{IsInRange};
+ghost use Rattle.pq_top.specs.declared.answer.Answer.TheVariants.{OutOfMemory};
 ghost use Rattle.pq_top.specs.Device.{moved};
-ghost use Rattle.pq_top.specs.Work.{Means, LeavesSource, LeavesSink};
+ghost use Rattle.pq_top.specs.Request.{AskToMake, reads_by};
+ghost use Rattle.pq_top.specs.Outputs.{input_limit};
+ghost use Rattle.pq_top.specs.Work.{Means, LeavesSource, LeavesSink, Gives, FailsFor, FailsToRead, WritesOutput, answered_by};
 
-use crate::optimise::optimised;
-use crate::words::{UsageFault, request};
-use pq_io::{ReadWhole, Sink, Source, read_whole, write_whole};
-use pq_read::ReadError;
-use std::alloc::Global;
+use crate::check::checked;
+use crate::optimise::{benched, generated_text, optimised};
+use pq_command::{Settings, UsageFault, WordsError, read_words};
+use pq_io::{ByteList, ReadWhole, Sink, Source, read_whole, write_whole};
+use pq_read::{Options, ReadError};
+use std::alloc::{AllocError, Global};
 
 /// The most bytes of a text.
 pub const MAX_INPUT: u64 = 67_108_864;
@@ -24,7 +30,8 @@ pub enum Refusal {
 /// What came of the work.
 #[derive(Clone, Copy, Debug, PartialEq, Eq)]
 pub enum Answer {
-    Done,
+    /// The output was written; a redex was found where one was looked for.
+    Done { found: bool },
     Usage(UsageFault),
     Refused(Refusal),
     ReadFault { taken: u64 },
@@ -32,7 +39,22 @@ pub enum Answer {
     OutOfMemory,
 }
 
-/// Reads what the words ask for, then the text, optimises it and writes it.
+/// The output of a command, and whether it names a redex.
+#[derive(Drop)]
+pub struct Output {
+    pub text: ByteList,
+    pub found: bool,
+}
+
+impl From<AllocError> for Answer {
+    ghost from_gives = { λ _ e. e ≡ OutOfMemory };
+
+    fn from(_error: AllocError) -> Answer {
+        Answer::OutOfMemory
+    }
+}
+
+/// Does what the words ask for: reads the text, where the command wants one, makes the output and writes it.
 pub fn work<S: Source, K: Sink>(
     alloc: Global,
     words: &[String],
@@ -43,22 +65,94 @@ pub fn work<S: Source, K: Sink>(
         (moved K.held K.faults sink.old sink.new) result }
     ensures source { LeavesSource result → source.new ≡ source.old }
     ensures sink { LeavesSink result → sink.new ≡ sink.old }
+    ensures untouched { AskToMake (map string_bytes words.now) → source.new ≡ source.old }
 {
-    let omega = match request(words) {
-        Ok(omega) => omega,
-        Err(fault) => return Answer::Usage(fault),
-    };
-    match read_whole(alloc, source, MAX_INPUT) {
-        ReadWhole::Bytes(text) => match optimised(alloc, text, omega) {
-            Ok(output) => match write_whole(sink, output.as_slice()) {
-                Ok(()) => Answer::Done,
-                Err(fault) => Answer::WriteFault { sent: fault.sent },
-            },
-            Err(ReadError::Refused(fault)) => Answer::Refused(Refusal::Text(fault)),
-            Err(ReadError::OutOfMemory) => Answer::OutOfMemory,
+    match read_words(alloc, words) {
+        Ok(settings) => match output_of(alloc, settings, source) {
+            Ok(output) => written(sink, &output),
+            Err(answer) => answer,
         },
-        ReadWhole::Failed { taken } => Answer::ReadFault { taken },
-        ReadWhole::TooLong => Answer::Refused(Refusal::TooLong),
-        ReadWhole::OutOfMemory => Answer::OutOfMemory,
+        Err(WordsError::Usage(fault)) => Answer::Usage(fault),
+        Err(WordsError::OutOfMemory) => Answer::OutOfMemory,
+    }
+}
+
+/// Writes the output.
+fn written<K: Sink>(sink: &mut K, output: &Output) -> Answer
+    ensures { WritesOutput (moved K.held K.faults sink.old sink.new) output.now result }
+{
+    match write_whole(sink, output.text.as_slice()) {
+        Ok(()) => Answer::Done {
+            found: output.found,
+        },
+        Err(fault) => Answer::WriteFault { sent: fault.sent },
+    }
+}
+
+/// What a command makes, of the text that the source gives where it reads one.
+fn output_of<S: Source>(alloc: Global, settings: Settings, source: &mut S) -> Result<Output, Answer>
+    requires { IsInRange settings }
+    ensures output { IfOk result (Gives settings (moved S.left S.faults source.old source.new)) }
+    ensures fault { IfErr result (FailsFor settings (moved S.left S.faults source.old source.new)) }
+    ensures untouched { reads_by settings ≡ None → source.new ≡ source.old }
+{
+    match settings {
+        Settings::Opt {
+            omega,
+            drop_barriers,
+            ..
+        } => {
+            let text = source_text(alloc, source)?;
+            answered(optimised(alloc, text, Options { drop_barriers }, omega))
+        },
+        Settings::Check {
+            omega,
+            drop_barriers,
+        } => {
+            let text = source_text(alloc, source)?;
+            answered(checked(alloc, text, Options { drop_barriers }, omega))
+        },
+        Settings::Gen {
+            seed,
+            qubits,
+            gates,
+        } => {
+            let text = generated_text(alloc, seed, qubits, gates)?;
+            Ok(Output { text, found: false })
+        },
+        Settings::Bench {
+            omega,
+            seed,
+            qubits,
+            gates,
+            ..
+        } => {
+            let text = benched(alloc, omega, seed, qubits, gates)?;
+            Ok(Output { text, found: false })
+        },
+    }
+}
+
+/// The output, or the answer where there is none.
+fn answered(made: Result<Output, ReadError>) -> Result<Output, Answer>
+    ensures { result ≡ answered_by made }
+{
+    match made {
+        Ok(output) => Ok(output),
+        Err(ReadError::Refused(fault)) => Err(Answer::Refused(Refusal::Text(fault))),
+        Err(ReadError::OutOfMemory) => Err(Answer::OutOfMemory),
+    }
+}
+
+/// The whole text that the source gives.
+fn source_text<S: Source>(alloc: Global, source: &mut S) -> Result<ByteList, Answer>
+    ensures text { IfOk result (λ text. ReadsToEnd (S.left source.old) (S.left source.new) input_limit text.items) }
+    ensures fault { IfErr result (FailsToRead (moved S.left S.faults source.old source.new)) }
+{
+    match read_whole(alloc, source, MAX_INPUT) {
+        ReadWhole::Bytes(text) => Ok(text),
+        ReadWhole::Failed { taken } => Err(Answer::ReadFault { taken }),
+        ReadWhole::TooLong => Err(Answer::Refused(Refusal::TooLong)),
+        ReadWhole::OutOfMemory => Err(Answer::OutOfMemory),
     }
 }

@@ -1,12 +1,13 @@
-ghost use Rattle.std.specs.Prelude.{◌≡◌, ◌≤◌, flat_map};
+ghost use Rattle.std.specs.Prelude.{◌≡◌, ◌≤◌, ◌++◌, codes, flat_map};
+ghost use Rattle.pq_command.specs.CommandLine.{name_of as switch_name};
 ghost use Rattle.pq_io.specs.Whole.{WritesWhole};
 ghost use Rattle.pq_top.specs.Device.{moved, Noted};
 ghost use Rattle.pq_top.specs.Notes.{piece_text, usage_line, refusal_line, fault_line};
-ghost use Rattle.pq_top.specs.Work.{note_line};
+ghost use Rattle.pq_top.specs.Work.{note_line, LeavesNotes};
 
 use crate::answer::{Answer, Refusal};
-use crate::words::UsageFault;
 use itoa::Buffer;
+use pq_command::{Switch, UsageFault};
 use pq_io::{Sink, WriteFault, write_whole};
 
 /// A piece of a line: a text, or a number in decimal.
@@ -21,11 +22,11 @@ pub enum Piece<'t> {
 #[tactic(auto, unfolding(crate::specs::Notes::read_fault_line, crate::specs::Notes::write_fault_line, crate::specs::Notes::out_of_memory_line))]
 pub fn note<N: Sink>(notes: &mut N, answer: Answer)
     ensures noted { Noted (moved N.held N.faults notes.old notes.new) (note_line answer) }
-    ensures quiet { answer ≡ Answer.Done → notes.new ≡ notes.old }
+    ensures quiet { LeavesNotes answer → notes.new ≡ notes.old }
 {
     match answer {
-        Answer::Done => {}
-        Answer::Usage(fault) => put(notes, &[Piece::Text(usage_text(fault))]),
+        Answer::Done { .. } => {}
+        Answer::Usage(fault) => note_usage(notes, fault),
         Answer::Refused(refusal) => note_refusal(notes, refusal),
         Answer::ReadFault { taken } => put(
             notes,
@@ -106,12 +107,31 @@ fn put_piece<N: Sink>(notes: &mut N, piece: &Piece) -> Result<(), WriteFault>
 }
 
 #[tactic(auto, unfolding(crate::specs::Notes::usage_line))]
-fn usage_text(fault: UsageFault) -> &'static [u8]
-    ensures { result.now ≡ usage_line fault }
+fn note_usage<N: Sink>(notes: &mut N, fault: UsageFault)
+    ensures { Noted (moved N.held N.faults notes.old notes.new) (usage_line fault) }
 {
     match fault {
-        UsageFault::Words => b"popqc: usage: words\n",
-        UsageFault::NumberOmega => b"popqc: usage: number omega\n",
-        UsageFault::RangeOmega => b"popqc: usage: range omega\n",
+        UsageFault::Words => put(notes, &[Piece::Text(b"popqc: usage: words\n")]),
+        UsageFault::Command => put(notes, &[Piece::Text(b"popqc: usage: command\n")]),
+        UsageFault::Unwanted(switch) => note_switch(notes, b"unwanted ", switch),
+        UsageFault::Missing(switch) => note_switch(notes, b"missing ", switch),
+        UsageFault::Number(switch) => note_switch(notes, b"number ", switch),
+        UsageFault::Range(switch) => note_switch(notes, b"range ", switch),
     }
+}
+
+// What is wrong with an option.
+fn note_switch<N: Sink>(notes: &mut N, fault: &[u8], switch: Switch)
+    ensures { Noted (moved N.held N.faults notes.old notes.new)
+        (codes "popqc: usage: " ++ (fault.now ++ (switch_name switch ++ codes "\n"))) }
+{
+    put(
+        notes,
+        &[
+            Piece::Text(b"popqc: usage: "),
+            Piece::Text(fault),
+            Piece::Text(switch.name().as_bytes()),
+            Piece::Text(b"\n"),
+        ],
+    );
 }

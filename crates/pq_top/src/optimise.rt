@@ -1,42 +1,107 @@
-ghost use Rattle.std.specs.Prelude.{◌≡◌, ◌+◌, ◌-◌, ◌*◌, ◌≤◌, length, IfOk, IfErr};
+ghost use Rattle.std.specs.Prelude.{◌≡◌, false, ◌+◌, ◌-◌, ◌*◌, ◌≤◌, length, IfOk, IfErr};
 ghost use Rattle.pq_loop.specs.Gaps.{first_fingers};
 ghost use Rattle.pq_loop.specs.Opt.{Opt, Local};
 ghost use Rattle.pq_read.specs.Reads.{IsRefusedFor};
 ghost use Rattle.pq_rules.specs.Table.{builtin_rows};
-ghost use Rattle.pq_top.specs.Optimised.{options, input_limit, total_of, KeepsMatrix, IsOptimised};
+ghost use Rattle.pq_top.specs.Outputs.{input_limit, total_of, KeepsMatrix, IsOptText, IsBenchText};
+ghost use Rattle.pq_generate.specs.Generated.{generated};
+ghost use Rattle.pq_text.specs.Print.{print};
 
+use crate::answer::Output;
 use pq_gate::Gate;
+use pq_generate::generate;
 use pq_io::ByteList;
 use pq_loop::{Finished, Loop};
 use pq_read::{Options, Program, ReadError, read_text};
 use pq_rules::Rules;
-use pq_write::write_program;
+use pq_write::{Report, write_program, write_report, write_with_report};
 use std::alloc::{AllocError, Global};
 
-/// How texts are read.
-const OPTIONS: Options = Options {
-    drop_barriers: false,
-};
-
-/// The canonical text of the program that a text stands for, with the gates that rounds leave of its own.
-/// Omega is 2 to 1,024.
-#[tactic(auto, using(crate::proofs::Optimising::formed_with, crate::proofs::Optimising::optimised_by))]
-pub fn optimised(alloc: Global, text: ByteList, omega: u32) -> Result<ByteList, ReadError>
+/// The canonical text of the program that a text stands for, with the gates that rounds leave of its own, and
+/// then the report. Omega is 2 to 1,024.
+#[tactic(auto, using(crate::proofs::Optimising::formed_with))]
+pub fn optimised(
+    alloc: Global,
+    text: ByteList,
+    options: Options,
+    omega: u32,
+) -> Result<Output, ReadError>
     requires within { length text.items ≤ input_limit }
     requires least { 2 ≤ omega }
     requires most { omega ≤ 1024 }
-    ensures found { IfOk result (λ output. IsOptimised omega text.items output.items) }
+    ensures found { IfOk result (λ output. IsOptText omega options text.items output.text.items × (output.found ≡ false)) }
     ensures refused { IfErr result (IsRefusedFor text.items options) }
 {
-    let program = read_text(alloc, text.as_slice(), OPTIONS)?;
+    let program = read_text(alloc, text.as_slice(), options)?;
     drop(text);
+    let gates_in = program.gates.as_slice().len() as u64;
     let finished = run_rounds(alloc, program.gates.as_slice(), omega)?;
+    let report = report_on(gates_in, &finished);
     let program = Program {
         gates: finished.gates,
         ..program
     };
-    let output = write_program(alloc, &program)?;
-    Ok(output)
+    let text = write_with_report(alloc, &program, &report)?;
+    Ok(Output { text, found: false })
+}
+
+/// The report on what rounds left of so many gates.
+fn report_on(gates_in: u64, finished: &Finished) -> Report
+    ensures { result ≡ record {
+      gates_in = gates_in;
+      gates_out = length finished.now.gates.items;
+      rounds = finished.now.rounds;
+      calls = finished.now.calls;
+      first_fingers = finished.now.first_fingers;
+      phase = finished.now.phase;
+    } }
+{
+    Report {
+        gates_in,
+        gates_out: finished.gates.as_slice().len() as u64,
+        rounds: finished.rounds,
+        calls: finished.calls,
+        first_fingers: finished.first_fingers,
+        phase: finished.phase,
+    }
+}
+
+/// The canonical text of the generated program.
+pub fn generated_text(
+    alloc: Global,
+    seed: u64,
+    qubits: u32,
+    gates: u32,
+) -> Result<ByteList, AllocError>
+    requires some { 1 ≤ qubits }
+    requires few_qubits { qubits ≤ 4096 }
+    requires few_gates { gates ≤ 1048576 }
+    ensures { IfOk result (λ text. text.items ≡ print (generated seed qubits gates)) }
+{
+    let program = generate(alloc, seed, qubits, gates)?;
+    write_program(alloc, &program)
+}
+
+/// The report on optimising the generated program.
+pub fn benched(
+    alloc: Global,
+    omega: u32,
+    seed: u64,
+    qubits: u32,
+    gates: u32,
+) -> Result<ByteList, AllocError>
+    requires least { 2 ≤ omega }
+    requires most { omega ≤ 1024 }
+    requires some { 1 ≤ qubits }
+    requires few_qubits { qubits ≤ 4096 }
+    requires few_gates { gates ≤ 1048576 }
+    ensures { IfOk result (λ text. IsBenchText omega seed qubits gates text.items) }
+{
+    let program = generate(alloc, seed, qubits, gates)?;
+    let gates_in = program.gates.as_slice().len() as u64;
+    let finished = run_rounds(alloc, program.gates.as_slice(), omega)?;
+    let report = report_on(gates_in, &finished);
+    write_report(alloc, &report)
 }
 
 // Makes rounds under the built-in rules, from the first fingers until there is no finger.

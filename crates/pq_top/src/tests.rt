@@ -7,26 +7,21 @@ use std::process::Abort;
 use std::test::Fail;
 use std::thread::Threads;
 
-const HEADER: &str = "OPENQASM 2.0;\ninclude \"qelib1.inc\";\nqreg q[1];\n";
+const FRONT: &str = "OPENQASM 2.0;\ninclude \"qelib1.inc\";\nqreg q[4];\n";
 
 const TWO_H: &str = "OPENQASM 2.0;\ninclude \"qelib1.inc\";\nqreg q[1];\nh q[0];\nh q[0];\n";
 
-const NESTED: &str =
-    "OPENQASM 2.0;\ninclude \"qelib1.inc\";\nqreg q[1];\nh q[0];\nx q[0];\nx q[0];\nh q[0];\n";
+const NO_H: &str = "OPENQASM 2.0;\ninclude \"qelib1.inc\";\nqreg q[1];\n\
+    // gates 2 0\n// rounds 1\n// calls 1\n// first fingers 1\n// phase 0\n";
 
-const MIXED: &str =
-    "OPENQASM 2.0;\ninclude \"qelib1.inc\";\nqreg q[12];\nt q[0];\ncx q[10],q[11];\ncx q[10],q[11];\nsdg q[3];\n";
+const FAR_H: &str = "OPENQASM 2.0;\ninclude \"qelib1.inc\";\nqreg q[4];\n\
+    h q[0];\nt q[1];\ns q[1];\nt q[2];\ns q[2];\nt q[3];\ns q[3];\nh q[0];\n";
 
-const MIXED_LEFT: &str =
-    "OPENQASM 2.0;\ninclude \"qelib1.inc\";\nqreg q[12];\nt q[0];\nsdg q[3];\n";
+const BARRIER_INSIDE: &str =
+    "OPENQASM 2.0;\ninclude \"qelib1.inc\";\nqreg q[1];\nh q[0];\nbarrier q;\nh q[0];\n";
 
-const BY_HAND: &str =
-    "OPENQASM 2.0;\ninclude \"qelib1.inc\";\nqreg q[3];\ncreg c[3];\nh q[0];\ncx q[0],q[1];\n\
-    t q[1];\ntdg q[1];\ncx q[0],q[1];\nh q;\nbarrier q;\nmeasure q -> c;\n";
-
-const BY_HAND_OUTPUT: &str = "OPENQASM 2.0;\ninclude \"qelib1.inc\";\nqreg q[3];\ncreg c[3];\n\
-    h q[1];\nh q[2];\nbarrier q[0],q[1],q[2];\n\
-    measure q[0] -> c[0];\nmeasure q[1] -> c[1];\nmeasure q[2] -> c[2];\n";
+const FIVE_GATES: &str = "OPENQASM 2.0;\ninclude \"qelib1.inc\";\nqreg q[2];\n\
+    cx q[1],q[0];\nsdg q[0];\ncx q[1],q[0];\nsdg q[1];\ns q[1];\n";
 
 // A device: how many bytes a call moves at most, and which call fails.
 #[derive(Clone, Copy)]
@@ -103,28 +98,230 @@ fn expect(rt: &impl Abort, outcome: &Outcome, status: u8, output: &str, note: &s
     assert!(rt; outcome.notes.held() == note.as_bytes(), "{note}");
 }
 
-fn accepts(
+fn makes(
+    rt: &(impl Abort + AllocGlobal + Threads + Sync),
+    words: &[&str],
+    text: &str,
+    status: u8,
+    output: &str,
+) -> Result<(), AllocError> {
+    let outcome = run(rt, words, text, WHOLE, WHOLE)?;
+    expect(rt, &outcome, status, output, "");
+    Ok(())
+}
+
+// The text of a report: the gates in and out, the rounds, the calls, the first fingers, and the phase.
+fn report_of(alloc: Global, numbers: [u8; 6]) -> Result<String, AllocError> {
+    let [gates_in, gates_out, rounds, calls, first_fingers, phase] = numbers;
+    format!(in alloc;
+        "// gates {gates_in} {gates_out}\n// rounds {rounds}\n// calls {calls}\n// first fingers {first_fingers}\n// phase {phase}\n"
+    )
+}
+
+// Optimises a text of these gates on four wires with this Omega, and compares the gates that are written and the
+// numbers of the report.
+fn leaves(
     rt: &(impl Abort + AllocGlobal + Threads + Sync),
     omega: &str,
-    step: u32,
-    text: &str,
-    output: &str,
-) -> Result<(), AllocError>
-    requires { 0 < step }
-{
-    let device = Device { step, fails: None };
-    let outcome = run(rt, &[omega], text, device, device)?;
-    expect(rt, &outcome, 0, output, "");
+    gates: &str,
+    left: &str,
+    numbers: [u8; 6],
+) -> Result<(), AllocError> {
+    let mut text = String::from_str(rt.alloc(), FRONT)?;
+    text.push_str(gates)?;
+    let mut output = String::from_str(rt.alloc(), FRONT)?;
+    output.push_str(left)?;
+    output.push_str(report_of(rt.alloc(), numbers)?.as_str())?;
+    makes(
+        rt,
+        &["opt", "--omega", omega],
+        text.as_str(),
+        0,
+        output.as_str(),
+    )
+}
+
+#[test]
+fn a_segment_that_holds_all_gates_is_rewritten_by_the_rules(rt: HostRuntime) -> Result<(), Fail> {
+    for (omega, gates, left, numbers) in [
+        ("64", "", "", [0, 0, 0, 0, 0, 0]),
+        ("2", "h q[0];\nh q[0];\n", "", [2, 0, 1, 1, 1, 0]),
+        (
+            "4",
+            "t q[0];\ncx q[0],q[1];\nt q[0];\n",
+            "cx q[0],q[1];\ns q[0];\n",
+            [3, 2, 1, 1, 1, 0],
+        ),
+        (
+            "4",
+            "t q[1];\ncx q[0],q[1];\nt q[1];\n",
+            "t q[1];\ncx q[0],q[1];\nt q[1];\n",
+            [3, 3, 1, 1, 1, 0],
+        ),
+        (
+            "4",
+            "x q[0];\nt q[0];\nx q[0];\n",
+            "tdg q[0];\n",
+            [3, 1, 1, 1, 1, 1],
+        ),
+        (
+            "4",
+            "h q[0];\ns q[0];\nh q[0];\ns q[0];\n",
+            "sdg q[0];\nh q[0];\n",
+            [4, 2, 1, 1, 1, 1],
+        ),
+        (
+            "4",
+            "t q[0];\ns q[0];\n",
+            "t q[0];\ns q[0];\n",
+            [2, 2, 1, 1, 1, 0],
+        ),
+        (
+            "4",
+            "cx q[0],q[1];\ncx q[1],q[2];\ncx q[0],q[1];\n",
+            "cx q[1],q[2];\ncx q[0],q[2];\n",
+            [3, 2, 1, 1, 1, 0],
+        ),
+        (
+            "8",
+            "h q[0];\nh q[1];\ncx q[0],q[1];\nh q[1];\nh q[0];\n",
+            "cx q[1],q[0];\n",
+            [5, 1, 1, 1, 1, 0],
+        ),
+    ] {
+        leaves(&rt, omega, gates, left, numbers)?;
+    }
+    Ok(())
+}
+
+#[test]
+fn a_statement_of_several_gates_has_each_of_them(rt: HostRuntime) -> Result<(), Fail> {
+    for (omega, gates, left, numbers) in [
+        (
+            "16",
+            "ccx q[0],q[1],q[2];\n",
+            "h q[2];\ncx q[1],q[2];\ntdg q[2];\ncx q[0],q[2];\nt q[2];\n\
+            cx q[1],q[2];\ntdg q[2];\ncx q[0],q[2];\nt q[1];\nt q[2];\nh q[2];\ncx q[0],q[1];\n\
+            t q[0];\ntdg q[1];\ncx q[0],q[1];\n",
+            [15, 15, 1, 1, 1, 0],
+        ),
+        (
+            "4",
+            "swap q[0],q[1];\n",
+            "cx q[0],q[1];\ncx q[1],q[0];\ncx q[0],q[1];\n",
+            [3, 3, 1, 1, 1, 0],
+        ),
+    ] {
+        leaves(&rt, omega, gates, left, numbers)?;
+    }
+    Ok(())
+}
+
+#[test]
+fn what_a_finger_sees_depends_on_omega(rt: HostRuntime) -> Result<(), Fail> {
+    for (omega, gates, left, numbers) in [
+        (
+            "2",
+            "h q[0];\nt q[1];\ns q[1];\nh q[0];\n",
+            "t q[1];\ns q[1];\n",
+            [4, 2, 2, 2, 2, 0],
+        ),
+        (
+            "2",
+            "h q[0];\nt q[1];\ns q[1];\nt q[2];\ns q[2];\nt q[3];\ns q[3];\nh q[0];\n",
+            "h q[0];\nt q[1];\ns q[1];\nt q[2];\ns q[2];\nt q[3];\ns q[3];\nh q[0];\n",
+            [8, 8, 2, 4, 4, 0],
+        ),
+        (
+            "4",
+            "h q[0];\nt q[1];\ns q[1];\nt q[2];\ns q[2];\nt q[3];\ns q[3];\nh q[0];\n",
+            "t q[1];\ns q[1];\nt q[2];\ns q[2];\nt q[3];\ns q[3];\n",
+            [8, 6, 2, 2, 2, 0],
+        ),
+    ] {
+        leaves(&rt, omega, gates, left, numbers)?;
+    }
+    Ok(())
+}
+
+#[test]
+fn rounds_go_on_where_gates_went_away(rt: HostRuntime) -> Result<(), Fail> {
+    for (omega, gates, left, numbers) in [
+        (
+            "2",
+            "h q[0];\nh q[0];\nh q[0];\nh q[0];\nh q[0];\nh q[0];\n",
+            "",
+            [6, 0, 2, 3, 3, 0],
+        ),
+        (
+            "2",
+            "h q[0];\nh q[0];\nt q[1];\ns q[1];\nt q[2];\ns q[2];\nh q[3];\nh q[3];\n",
+            "t q[1];\ns q[1];\nt q[2];\ns q[2];\n",
+            [8, 4, 3, 5, 4, 0],
+        ),
+    ] {
+        leaves(&rt, omega, gates, left, numbers)?;
+    }
     Ok(())
 }
 
 #[test]
 fn a_text_comes_and_goes_in_steps_of_any_size(rt: HostRuntime) -> Result<(), Fail> {
     for step in [1u32, 16, 1000] {
-        accepts(&rt, "2", step.max(1), TWO_H, HEADER)?;
-        accepts(&rt, "2", step.max(1), NESTED, HEADER)?;
-        accepts(&rt, "2", step.max(1), MIXED, MIXED_LEFT)?;
+        comes_in_steps(&rt, step.max(1))?;
     }
+    Ok(())
+}
+
+fn comes_in_steps(
+    rt: &(impl Abort + AllocGlobal + Threads + Sync),
+    step: u32,
+) -> Result<(), AllocError>
+    requires { 0 < step }
+{
+    let device = Device { step, fails: None };
+    let outcome = run(rt, &["opt", "--omega", "2"], TWO_H, device, device)?;
+    expect(rt, &outcome, 0, NO_H, "");
+    Ok(())
+}
+
+#[test]
+fn a_check_names_the_first_redex_within_omega(rt: HostRuntime) -> Result<(), Fail> {
+    for (omega, text, status, line) in [
+        ("2", TWO_H, 1, "redex 1 at 0 1\n"),
+        ("4", FAR_H, 0, "local\n"),
+        ("8", FAR_H, 1, "redex 1 at 0 7\n"),
+    ] {
+        makes(&rt, &["check", "--omega", omega], text, status, line)?;
+    }
+    Ok(())
+}
+
+#[test]
+fn a_generated_program_is_written_or_reported_on(rt: HostRuntime) -> Result<(), Fail> {
+    let failing = Device {
+        step: 16,
+        fails: Some(0),
+    };
+    let words = ["gen", "--seed", "0", "--qubits", "2", "--gates", "5"];
+    let outcome = run(&rt, &words, "", failing, WHOLE)?;
+    expect(&rt, &outcome, 0, FIVE_GATES, "");
+    let words = ["bench", "--seed", "0", "--qubits", "2", "--gates", "5"];
+    let outcome = run(&rt, &words, "", failing, WHOLE)?;
+    let report = report_of(rt.alloc(), [5, 3, 1, 1, 1, 0])?;
+    expect(&rt, &outcome, 0, report.as_str(), "");
+    Ok(())
+}
+
+#[test]
+fn a_large_generated_program_has_one_report(rt: HostRuntime) -> Result<(), Fail> {
+    let words = ["bench", "--seed", "7", "--qubits", "16", "--gates", "20000"];
+    let first = run(&rt, &words, "", WHOLE, WHOLE)?;
+    let second = run(&rt, &words, "", WHOLE, WHOLE)?;
+    assert_eq!(&rt; first.status, 0);
+    assert_eq!(&rt; second.status, 0);
+    assert!(&rt; first.sink.held().starts_with(b"// gates 20000 "));
+    assert!(&rt; first.sink.held() == second.sink.held());
     Ok(())
 }
 
@@ -141,20 +338,23 @@ fn refuses_words(
 #[test]
 fn faulty_words_are_named(rt: HostRuntime) -> Result<(), Fail> {
     refuses_words(&rt, &[], "popqc: usage: words\n")?;
-    refuses_words(&rt, &["2", "2"], "popqc: usage: words\n")?;
-    refuses_words(&rt, &["abc"], "popqc: usage: number omega\n")?;
-    refuses_words(&rt, &["+2"], "popqc: usage: number omega\n")?;
+    refuses_words(&rt, &["run"], "popqc: usage: command\n")?;
     refuses_words(
         &rt,
-        &["000000000000000000002"],
+        &["gen", "--omega", "2"],
+        "popqc: usage: unwanted omega\n",
+    )?;
+    refuses_words(
+        &rt,
+        &["gen", "--seed", "1", "--qubits", "2"],
+        "popqc: usage: missing gates\n",
+    )?;
+    refuses_words(
+        &rt,
+        &["opt", "--omega", "x"],
         "popqc: usage: number omega\n",
     )?;
-    refuses_words(&rt, &["1"], "popqc: usage: range omega\n")?;
-    refuses_words(
-        &rt,
-        &["99999999999999999999"],
-        "popqc: usage: range omega\n",
-    )?;
+    refuses_words(&rt, &["opt", "--omega", "1"], "popqc: usage: range omega\n")?;
     Ok(())
 }
 
@@ -163,7 +363,7 @@ fn refuses(
     text: &str,
     note: &str,
 ) -> Result<(), AllocError> {
-    let outcome = run(rt, &["2"], text, WHOLE, WHOLE)?;
+    let outcome = run(rt, &["opt", "--omega", "2"], text, WHOLE, WHOLE)?;
     expect(rt, &outcome, 3, "", note);
     Ok(())
 }
@@ -206,8 +406,14 @@ fn refusals_have_their_number_their_name_and_their_place(rt: HostRuntime) -> Res
 }
 
 #[test]
-fn a_text_written_by_hand_has_its_tail_in_canonical_form(rt: HostRuntime) -> Result<(), Fail> {
-    accepts(&rt, "2", 100, BY_HAND, BY_HAND_OUTPUT)?;
+fn barriers_inside_are_dropped_where_they_are_to_be(rt: HostRuntime) -> Result<(), Fail> {
+    makes(
+        &rt,
+        &["opt", "--drop-barriers", "--omega", "2"],
+        BARRIER_INSIDE,
+        0,
+        NO_H,
+    )?;
     Ok(())
 }
 
@@ -217,7 +423,7 @@ fn failing_devices_are_counted(rt: HostRuntime) -> Result<(), Fail> {
         step: 16,
         fails: Some(1),
     };
-    let outcome = run(&rt, &["2"], TWO_H, WHOLE, failing)?;
+    let outcome = run(&rt, &["opt", "--omega", "2"], TWO_H, WHOLE, failing)?;
     expect(
         &rt,
         &outcome,
@@ -229,7 +435,7 @@ fn failing_devices_are_counted(rt: HostRuntime) -> Result<(), Fail> {
         step: 16,
         fails: Some(0),
     };
-    let outcome = run(&rt, &["2"], TWO_H, failing, WHOLE)?;
+    let outcome = run(&rt, &["opt", "--omega", "2"], TWO_H, failing, WHOLE)?;
     expect(&rt, &outcome, 4, "", "popqc: read fault after 0 bytes\n");
     Ok(())
 }
@@ -240,118 +446,5 @@ fn arguments_that_cannot_be_had_are_noted(rt: HostRuntime) -> Result<(), Fail> {
     assert_eq!(&rt; refuse_arguments(&mut notes, ArgumentFault::NotText), 2);
     assert_eq!(&rt; refuse_arguments(&mut notes, ArgumentFault::OutOfMemory), 6);
     assert!(&rt; notes.held() == b"popqc: usage: words\npopqc: out of memory\n".as_slice());
-    Ok(())
-}
-
-// Runs a text of these gates on four wires with this Omega, and compares the gates that are written.
-fn leaves(
-    rt: &(impl Abort + AllocGlobal + Threads + Sync),
-    omega: &str,
-    gates: &str,
-    left: &str,
-) -> Result<(), AllocError> {
-    let front = "OPENQASM 2.0;\ninclude \"qelib1.inc\";\nqreg q[4];\n";
-    let mut text = String::from_str(rt.alloc(), front)?;
-    text.push_str(gates)?;
-    let mut output = String::from_str(rt.alloc(), front)?;
-    output.push_str(left)?;
-    accepts(rt, omega, 100, text.as_str(), output.as_str())
-}
-
-#[test]
-fn a_segment_that_holds_all_gates_is_rewritten_by_the_rules(rt: HostRuntime) -> Result<(), Fail> {
-    for (omega, gates, left) in [
-        ("64", "", ""),
-        ("2", "h q[0];\nh q[0];\n", ""),
-        (
-            "4",
-            "t q[0];\ncx q[0],q[1];\nt q[0];\n",
-            "cx q[0],q[1];\ns q[0];\n",
-        ),
-        (
-            "4",
-            "t q[1];\ncx q[0],q[1];\nt q[1];\n",
-            "t q[1];\ncx q[0],q[1];\nt q[1];\n",
-        ),
-        ("4", "x q[0];\nt q[0];\nx q[0];\n", "tdg q[0];\n"),
-        (
-            "4",
-            "h q[0];\ns q[0];\nh q[0];\ns q[0];\n",
-            "sdg q[0];\nh q[0];\n",
-        ),
-        ("4", "t q[0];\ns q[0];\n", "t q[0];\ns q[0];\n"),
-        (
-            "4",
-            "cx q[0],q[1];\ncx q[1],q[2];\ncx q[0],q[1];\n",
-            "cx q[1],q[2];\ncx q[0],q[2];\n",
-        ),
-        (
-            "8",
-            "h q[0];\nh q[1];\ncx q[0],q[1];\nh q[1];\nh q[0];\n",
-            "cx q[1],q[0];\n",
-        ),
-        (
-            "16",
-            "ccx q[0],q[1],q[2];\n",
-            "h q[2];\ncx q[1],q[2];\ntdg q[2];\ncx q[0],q[2];\nt q[2];\n\
-            cx q[1],q[2];\ntdg q[2];\ncx q[0],q[2];\nt q[1];\nt q[2];\nh q[2];\ncx q[0],q[1];\n\
-            t q[0];\ntdg q[1];\ncx q[0],q[1];\n",
-        ),
-        (
-            "4",
-            "swap q[0],q[1];\n",
-            "cx q[0],q[1];\ncx q[1],q[0];\ncx q[0],q[1];\n",
-        ),
-    ] {
-        leaves(&rt, omega, gates, left)?;
-    }
-    Ok(())
-}
-
-#[test]
-fn what_a_finger_sees_depends_on_omega(rt: HostRuntime) -> Result<(), Fail> {
-    for (omega, gates, left) in [
-        (
-            "2",
-            "h q[0];\nt q[1];\ns q[1];\nh q[0];\n",
-            "t q[1];\ns q[1];\n",
-        ),
-        (
-            "2",
-            "h q[0];\nt q[1];\ns q[1];\nt q[2];\ns q[2];\nt q[3];\ns q[3];\nh q[0];\n",
-            "h q[0];\nt q[1];\ns q[1];\nt q[2];\ns q[2];\nt q[3];\ns q[3];\nh q[0];\n",
-        ),
-        (
-            "4",
-            "h q[0];\nt q[1];\ns q[1];\nt q[2];\ns q[2];\nt q[3];\ns q[3];\nh q[0];\n",
-            "t q[1];\ns q[1];\nt q[2];\ns q[2];\nt q[3];\ns q[3];\n",
-        ),
-    ] {
-        leaves(&rt, omega, gates, left)?;
-    }
-    Ok(())
-}
-
-#[test]
-fn rounds_go_on_where_gates_went_away(rt: HostRuntime) -> Result<(), Fail> {
-    for (omega, gates, left) in [
-        (
-            "2",
-            "h q[0];\nh q[0];\nh q[0];\nh q[0];\nh q[0];\nh q[0];\n",
-            "",
-        ),
-        (
-            "2",
-            "h q[0];\nh q[0];\nt q[1];\ns q[1];\nt q[2];\ns q[2];\nh q[3];\nh q[3];\n",
-            "t q[1];\ns q[1];\nt q[2];\ns q[2];\n",
-        ),
-        (
-            "2",
-            "s q[0];\nh q[0];\nz q[0];\nz q[0];\ns q[0];\nh q[0];\nx q[0];\nz q[0];\nx q[0];\nz q[0];\n",
-            "h q[0];\nsdg q[0];\n",
-        ),
-    ] {
-        leaves(&rt, omega, gates, left)?;
-    }
     Ok(())
 }

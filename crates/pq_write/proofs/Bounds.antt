@@ -137,3 +137,8 @@ length_print p =
     let g : List ℕ = flat_map (gate_line p.qregs) p.gates in
     let t : List ℕ = flat_map (tail_line p.qregs p.cregs) p.tail in
     omega (arith, length_header, length-append header (q ++ (c ++ (g ++ t))), length-append q (c ++ (g ++ t)), length-append c (g ++ t), length-append g t)
+
+pub print_short : (p : ProgramView) → WellFormed p → length (print p) < 2 ^ 33
+print_short p well =
+    let short = is_short p well in
+    omega (arith, length_print p, short.qregs, short.cregs, short.gates, short.tail)

@@ -11,3 +11,4 @@ pub mod ReadBack
 pub mod Listing
 pub mod Bounds
 pub mod Texts
+pub mod Reports

@@ -53,10 +53,10 @@ joined mark f x [] = sym (append-nil (f x))
 joined mark f x (y ∷ ys) = ap (λ t. f x ++ (mark ∷ t)) (joined mark f y ys)
 
 -- what is appended part by part
-pub assembled : (none one two three four five h q c g t : List ℕ) → none ≡ [] → one ≡ none ++ h → two ≡ one ++ q → three ≡ two ++ c → four ≡ three ++ g → five ≡ four ++ t
-    → five ≡ h ++ (q ++ (c ++ (g ++ t)))
-assembled none one two three four five h q c g t e0 e1 e2 e3 e4 e5 =
-    let whole : five ≡ ((((([] ++ h) ++ q) ++ c) ++ g) ++ t) = rw (e5, e4, e3, e2, e1, e0) refl in
+pub assembled : (before one two three four five h q c g t : List ℕ) → one ≡ before ++ h → two ≡ one ++ q → three ≡ two ++ c → four ≡ three ++ g → five ≡ four ++ t
+    → five ≡ before ++ (h ++ (q ++ (c ++ (g ++ t))))
+assembled before one two three four five h q c g t e1 e2 e3 e4 e5 =
+    let whole : five ≡ (((((before ++ h) ++ q) ++ c) ++ g) ++ t) = rw (e5, e4, e3, e2, e1) refl in
     whole ∙ simp append_assoc
 
 -- a view's item stands within the view of the list

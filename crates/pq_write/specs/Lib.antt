@@ -4,3 +4,4 @@ pub use Rattle.pq_text.specs.Print
 pub use Rattle.pq_read.specs.Environment
 pub use Rattle.pq_read.specs.Reads
 pub mod Table
+pub mod Report

@@ -1,5 +1,5 @@
-//! The writer of circuit programs: the canonical text, and the law that it is read as the program that was
-//! written.
+//! The writer of circuit programs: the canonical text, the law that it is read as the program that was written,
+//! and the report on a run, as lines of comments that may stand after the text.
 #![tactic(auto)]
 
 mod gate;
@@ -8,10 +8,12 @@ mod length;
 mod places;
 mod program;
 mod register;
+mod report;
 mod tail;
 
 pub use laws::texts_are_read_back;
-pub use program::write_program;
+pub use program::{write_program, write_with_report};
+pub use report::{Report, write_report};
 
 #[cfg(test)]
 mod tests;

@@ -3,11 +3,12 @@ ghost use Rattle.pq_text.specs.WellFormed.{WellFormed};
 ghost use Rattle.pq_read.specs.Environment.{view};
 
 use crate::program::HEADER;
-use crate::write_program;
+use crate::report::REPORT_ROOM;
+use crate::{Report, write_program, write_report, write_with_report};
 use pq_io::ByteList;
 use pq_lex::MAX_TEXT;
 use pq_read::{Options, Program, read_text};
-use std::alloc::Global;
+use std::alloc::{AllocError, Global};
 
 // The program that a text stands for.
 fn read(alloc: Global, text: &[u8]) -> Option<Program>
@@ -121,4 +122,66 @@ fn texts_of_users_are_written_the_same_once_written(rt: HostRuntime) {
     ] {
         assert!(rt; is_settled_after(rt.alloc(), lines), "at {lines:?}");
     }
+}
+
+const RUN: Report = Report {
+    gates_in: 1_048_576,
+    gates_out: 62_034,
+    rounds: 17,
+    calls: 90_210,
+    first_fingers: 0,
+    phase: 7,
+};
+
+const RUN_WRITTEN: &[u8] = b"// gates 1048576 62034
+// rounds 17
+// calls 90210
+// first fingers 0
+// phase 7
+";
+
+const LONGEST: Report = Report {
+    gates_in: u64::MAX,
+    gates_out: u64::MAX,
+    rounds: u64::MAX,
+    calls: u64::MAX,
+    first_fingers: u64::MAX,
+    phase: 255,
+};
+
+#[test]
+fn a_report_is_five_lines_within_its_room(rt: HostRuntime) -> Result<(), AllocError> {
+    let written = write_report(rt.alloc(), &RUN)?;
+    assert!(rt; written.as_slice() == RUN_WRITTEN);
+    let longest = write_report(rt.alloc(), &LONGEST)?;
+    assert_eq!(rt; longest.as_slice().len(), REPORT_ROOM);
+    Ok(())
+}
+
+// Whether a text stands for a program that is written with the report like this.
+fn is_written_with_report(alloc: Global, text: &[u8], want: &[u8]) -> bool {
+    let Some(program) = read(alloc, text) else {
+        return false;
+    };
+    match write_with_report(alloc, &program, &RUN) {
+        Ok(written) => written.as_slice() == want,
+        Err(_) => false,
+    }
+}
+
+const WITH_REPORT: &[u8] = b"OPENQASM 2.0;
+include \"qelib1.inc\";
+qreg q[2];
+cx q[1],q[0];
+barrier q[0],q[1];
+// gates 1048576 62034
+// rounds 17
+// calls 90210
+// first fingers 0
+// phase 7
+";
+
+#[test]
+fn a_report_stands_after_the_program_as_comments(rt: HostRuntime) {
+    assert!(rt; is_written_with_report(rt.alloc(), WITH_REPORT, WITH_REPORT));
 }

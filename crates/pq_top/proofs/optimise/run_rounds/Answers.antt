@@ -2,7 +2,7 @@ use Rattle.std.proofs.Common.{◌∙◌}
 use Rattle.std.specs.Prelude.{IfOk}
 use Rattle.std.proofs.lemmas.Result.{IfOk-weaker}
 use Rattle.pq_rules.specs.Table.{builtin_rows}
-use Rattle.pq_top.specs.Optimised.{total_of}
+use Rattle.pq_top.specs.Outputs.{total_of}
 use Rattle.pq_top.proofs.Leading.{first_on_its_way, next_on_its_way, some_finger}
 use Rattle.pq_top.proofs.Optimising.{IsLeft, left_at_end}
 use Rattle.pq_top.proofs.optimise.run_rounds.Goals as goal

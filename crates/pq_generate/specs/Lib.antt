@@ -1,0 +1,3 @@
+pub use Rattle.pq_text.specs.Program
+pub use Rattle.pq_text.specs.WellFormed
+pub mod Generated

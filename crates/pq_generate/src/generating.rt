@@ -1,0 +1,90 @@
+ghost use Rattle.std.specs.Prelude.{◌≡◌, ◌≤◌, ◌/◌, ◌%◌, IfOk};
+ghost use Rattle.pq_gate.specs.declared.gate.Gate.TheVariants.{Phase};
+ghost use Rattle.pq_text.specs.WellFormed.{WellFormed};
+ghost use Rattle.pq_read.specs.Environment.{view};
+ghost use Rattle.pq_generate.specs.Generated.{cx_of, gate_of, generated, on_one_register};
+
+use pq_gate::{Eighths, Gate, GateList};
+use pq_read::{Name, Program, RegList, Register, TailList};
+use rand_core::{Rng, SeedableRng};
+use rand_xoshiro::SplitMix64;
+use std::alloc::{AllocError, Global};
+
+/// The program of a seed: so many gates on one quantum register `q`. There are 1 to 4,096 qubits, and at
+/// most 1,048,576 gates. Each gate comes of one word of SplitMix64, which is started with the seed as its
+/// state.
+pub fn generate(alloc: Global, seed: u64, qubits: u32, gates: u32) -> Result<Program, AllocError>
+    requires some { 1 ≤ qubits }
+    requires few_qubits { qubits ≤ 4096 }
+    requires few_gates { gates ≤ 1048576 }
+    ensures generated { IfOk result (λ program. view program ≡ generated seed qubits gates) }
+    ensures well_formed { IfOk result (λ program. WellFormed (view program)) }
+{
+    let mut words = SplitMix64::seed_from_u64(seed);
+    let mut list = GateList::with_room(alloc, gates)?;
+    for _number in 0..gates {
+        list.push_kept(gate(words.next_u64(), qubits));
+    }
+    let program = on_one_register(alloc, qubits, list)?;
+    Ok(program)
+}
+
+/// The program of these gates on one quantum register `q`.
+fn on_one_register(alloc: Global, qubits: u32, gates: GateList) -> Result<Program, AllocError>
+    ensures { IfOk result (λ program. view program ≡ on_one_register qubits gates.items) }
+{
+    let name = Name::of(alloc, "q")?;
+    let mut qregs = RegList::with_room(alloc, 1)?;
+    qregs.push_kept(Register { name, size: qubits });
+    Ok(Program {
+        qregs,
+        cregs: RegList::with_room(alloc, 0)?,
+        gates,
+        tail: TailList::with_room(alloc, 0)?,
+    })
+}
+
+/// The gate of a word.
+fn gate(word: u64, qubits: u32) -> Gate
+    requires some { 1 ≤ qubits }
+    requires few { qubits ≤ 4096 }
+    ensures { result ≡ gate_of (word % 8) qubits (word / 8) }
+{
+    let number = word / 8;
+    let wire = (number % u64::from(qubits)) as u32;
+    match word % 8 {
+        0 => Gate::H { wire },
+        1 => Gate::X { wire },
+        2 => phase(Eighths::Z, wire),
+        3 => phase(Eighths::S, wire),
+        4 => phase(Eighths::Sdg, wire),
+        5 => phase(Eighths::T, wire),
+        6 => phase(Eighths::Tdg, wire),
+        _ => cx(number, qubits),
+    }
+}
+
+/// A phase on a wire.
+fn phase(eighths: Eighths, wire: u32) -> Gate
+    ensures { result ≡ Phase eighths wire }
+{
+    Gate::Phase { eighths, wire }
+}
+
+/// A CX whose control and target are taken by the number; on one qubit an H.
+fn cx(number: u64, qubits: u32) -> Gate
+    requires some { 1 ≤ qubits }
+    requires few { qubits ≤ 4096 }
+    ensures { result ≡ cx_of qubits number }
+{
+    if qubits == 1 {
+        return Gate::H { wire: 0 };
+    }
+    let qubits = u64::from(qubits);
+    let control = number % qubits;
+    let target = (control + 1 + number / qubits % (qubits - 1)) % qubits;
+    Gate::Cx {
+        control: control as u32,
+        target: target as u32,
+    }
+}

@@ -1,0 +1,53 @@
+-- What the parts of the work mean together.
+use Rattle.std.proofs.Common.{◌≡◌, ℕ, Bool, true, false, List, Option, None, Some, Result, Ok, Err, refl, sym, ap, subst, ◌∙◌}
+use Rattle.std.specs.Prelude.{IfOk, IfErr, IsSome}
+use Rattle.pq_io.specs.Whole.{ReadsToEnd, ReadsUpToFault}
+use Rattle.pq_read.specs.declared.program.Options.{Options}
+use Rattle.pq_read.specs.declared.refusal.ReadError.{ReadError}
+use Rattle.pq_read.specs.declared.refusal.ReadError.TheVariants as errors
+use Rattle.pq_read.specs.Reads.{IsRefusedFor as TextRefusedFor}
+use Rattle.pq_command.specs.declared.settings.Settings.{Settings}
+use Rattle.pq_command.specs.Asked.{asked}
+use Rattle.pq_top.specs.declared.answer.Answer.{Answer}
+use Rattle.pq_top.specs.declared.answer.Answer.TheVariants.{Done, Usage, Refused, ReadFault, WriteFault, OutOfMemory}
+use Rattle.pq_top.specs.declared.answer.Output.{Output}
+use Rattle.pq_top.specs.declared.answer.Refusal.TheVariants.{Text, TooLong}
+use Rattle.pq_top.specs.Device.{Moved}
+use Rattle.pq_top.specs.Outputs.{Makes, input_limit}
+use Rattle.pq_top.specs.Request.{AskFor, AskToMake, reads_by}
+use Rattle.pq_top.specs.Answers.{HasRead, Produces}
+use Rattle.pq_top.specs.Work.{Means, LeavesSource, LeavesSink, Gives, FailsFor, FailsToRead, WritesOutput, status_by, answered_by}
+
+some_way : (way : Option Options) → IsSome way → (options : Options) × (way ≡ Some options)
+some_way None some = absurd (cc)
+some_way (Some options) some = (options, refl)
+
+-- none was made
+pub failed_means : (words : List (List ℕ)) (wanted : Settings) (input output : Moved) (answer : Answer) → AskFor words wanted →
+    FailsFor wanted input answer → Means words input output answer
+failed_means words wanted input output (Refused refusal) asks fails =
+    record { options = fails.0; asks = (wanted, asks, fails.1); refuses = fails.2 }
+failed_means words wanted input output (ReadFault taken) asks fails =
+    let way : (options : Options) × (reads_by wanted ≡ Some options) = some_way (reads_by wanted) fails.0 in
+    record { options = way.0; asks = (wanted, asks, way.1); failed = fails.1 }
+failed_means words wanted input output OutOfMemory asks fails = tt
+failed_means words wanted input output _ asks fails = absurd fails
+
+-- a text that is refused is none for the command that reads it
+pub answered_fails : (wanted : Settings) (options : Options) (input : Moved) (text : List ℕ) (made : Result Output ReadError) (result : Result Output Answer) →
+    reads_by wanted ≡ Some options → ReadsToEnd input.before input.after input_limit text → result ≡ answered_by made →
+    IfErr made (TextRefusedFor text options) → IfErr result (FailsFor wanted input)
+answered_fails wanted options input text (Ok output) result way reads e refused = subst (λ (r : Result Output Answer). IfErr r (FailsFor wanted input)) (sym e) tt
+answered_fails wanted options input text (Err (errors.Refused fault)) result way reads e refused =
+    let P : Result Output Answer → Type 0 = λ r. IfErr r (FailsFor wanted input) in
+    let fails : FailsFor wanted input (Refused (Text fault)) = (options, way, (text, reads, refused)) in
+    subst P (sym e) fails
+answered_fails wanted options input text (Err errors.OutOfMemory) result way reads e refused = subst (λ (r : Result Output Answer). IfErr r (FailsFor wanted input)) (sym e) tt
+
+-- a source that can't be read fails for each command that reads it
+pub fails_to_read : (wanted : Settings) (options : Options) (input : Moved) (answer : Answer) → reads_by wanted ≡ Some options →
+    FailsToRead input answer → FailsFor wanted input answer
+fails_to_read wanted options input (Refused TooLong) way fails = (options, way, fails)
+fails_to_read wanted options input (ReadFault taken) way fails = (subst (λ (o : Option Options). IsSome o) (sym way) refl, fails)
+fails_to_read wanted options input OutOfMemory way fails = tt
+fails_to_read wanted options input _ way fails = absurd fails

@@ -1,0 +1,14 @@
+use Rattle.std.proofs.Common.{ap, length}
+use Rattle.std.proofs.lemmas.Result.{IfOk-weaker}
+use Rattle.pq_top.proofs.Optimising.{bench_text_by}
+use Rattle.pq_top.proofs.optimise.benched.Goals as goal
+
+pub returns : goal.returns
+returns c =
+    let program = c.in_ok-program.program in
+    let finished = c.in_ok-finished.finished in
+    let left = c.in_ok-finished.ensures in
+    IfOk-weaker c.write_report.result _ _
+    (λ text is. bench_text_by c.args.omega c.args.seed c.args.qubits c.args.gates _ text.items program c.as_slice-2.result.now finished
+    c.report_on-report.result c.as_slice-2.ensures (ap length c.as_slice.ensures) c.in_ok-program.ensures.generated c.in_ok-program.ensures.well_formed
+    left.opt left.same left.local left.bound left.first_fingers c.report_on-report.ensures is) c.write_report.ensures

@@ -1,0 +1,89 @@
+ghost use Rattle.std.specs.Prelude.{◌≡◌, ◌≤◌, ◌++◌, ℕ, List, length, decimal, flat_map, IfOk, IfErr, OnOk};
+ghost use Rattle.pq_match.specs.Found.{seen};
+ghost use Rattle.pq_read.specs.Reads.{IsRefusedFor};
+ghost use Rattle.pq_top.specs.Outputs.{input_limit, spaced, redex_line, local_line, IsCheckText};
+ghost use Rattle.pq_top.specs.Work.{status_by};
+
+use crate::answer::Output;
+use itoa::Buffer;
+use pq_io::ByteList;
+use pq_match::{Redex, find_within};
+use pq_read::{Options, ReadError, read_text};
+use pq_rules::Rules;
+use std::alloc::{AllocError, Global};
+
+/// Names the first redex of the program that a text stands for whose span is at most Omega, or says that
+/// there is none. Beside the program and the rules it takes memory for one line. Omega is 2 to 1,024.
+#[tactic(auto, using(crate::proofs::Checking::names_redex))]
+pub fn checked(
+    alloc: Global,
+    text: ByteList,
+    options: Options,
+    omega: u32,
+) -> Result<Output, ReadError>
+    requires within { length text.items ≤ input_limit }
+    requires least { 2 ≤ omega }
+    requires most { omega ≤ 1024 }
+    ensures found { IfOk result (λ output. IsCheckText omega options text.items (status_by output.found) output.text.items) }
+    ensures refused { IfErr result (IsRefusedFor text.items options) }
+{
+    let program = read_text(alloc, text.as_slice(), options)?;
+    drop(text);
+    let rules = Rules::builtin(alloc)?;
+    match find_within(program.gates.as_slice(), &rules, omega) {
+        Some(redex) => Ok(Output {
+            text: redex_text(alloc, &redex)?,
+            found: true,
+        }),
+        None => Ok(Output {
+            text: local_text(alloc)?,
+            found: false,
+        }),
+    }
+}
+
+/// The line that there is no redex.
+#[tactic(auto, unfolding(crate::specs::Outputs::local_line))]
+fn local_text(alloc: Global) -> Result<ByteList, AllocError>
+    ensures { IfOk result (λ text. text.items ≡ local_line) }
+{
+    let line = Vec::from_slice(alloc, b"local\n")?;
+    Ok(ByteList::of(line))
+}
+
+// Room for the line of a redex: 10 bytes for the words, at most 10 digits for the number of the row, and at most
+// 11 bytes for each of eight places.
+const LINE_ROOM: usize = 108;
+
+/// The line of a redex.
+fn redex_text(alloc: Global, redex: &Redex) -> Result<ByteList, AllocError>
+    requires { redex.now.count ≤ 8 }
+    ensures { IfOk result (λ text. (wires : List ℕ) → text.items ≡ redex_line (seen redex.now wires)) }
+{
+    let mut line = Vec::with_capacity(alloc, LINE_ROOM)?;
+    line.extend_from_slice(b"redex ")?;
+    push_number(&mut line, redex.row)?;
+    line.extend_from_slice(b" at")?;
+    push_places(&mut line, &redex.places[..redex.count as usize])?;
+    line.push(b'\n')?;
+    Ok(ByteList::of(line))
+}
+
+/// Appends the places, a space before each.
+fn push_places(line: &mut Vec<u8>, places: &[u32]) -> Result<(), AllocError>
+    ensures { OnOk result (line.new.items ≡ line.old.items ++ flat_map spaced places.now) }
+{
+    for place in places {
+        line.push(b' ')?;
+        push_number(line, *place)?;
+    }
+    Ok(())
+}
+
+/// Appends a number in decimal.
+fn push_number(line: &mut Vec<u8>, number: u32) -> Result<(), AllocError>
+    ensures { OnOk result (line.new.items ≡ line.old.items ++ decimal number) }
+{
+    let mut buffer = Buffer::new();
+    line.extend_from_slice(buffer.format(number).as_bytes())
+}

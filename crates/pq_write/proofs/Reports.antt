@@ -1,0 +1,17 @@
+-- The text of a report, number by number.
+use Rattle.std.proofs.Common.{◌≡◌, List, ℕ, ◌++◌, codes, decimal, append_assoc}
+use Rattle.pq_write.specs.declared.report.Report.{Report}
+use Rattle.pq_write.specs.Report.{report_text}
+
+-- what is appended number by number
+pub reported : (before one two three four five six all : List ℕ) (report : Report)
+    → one ≡ before ++ (codes "// gates " ++ decimal report.gates_in)
+    → two ≡ one ++ (codes " " ++ decimal report.gates_out)
+    → three ≡ two ++ (codes "\n// rounds " ++ decimal report.rounds)
+    → four ≡ three ++ (codes "\n// calls " ++ decimal report.calls)
+    → five ≡ four ++ (codes "\n// first fingers " ++ decimal report.first_fingers)
+    → six ≡ five ++ (codes "\n// phase " ++ decimal report.phase)
+    → all ≡ six ++ codes "\n"
+    → all ≡ before ++ report_text report
+unfolding report_text
+reported before one two three four five six all report e1 e2 e3 e4 e5 e6 e7 = rw (e7, e6, e5, e4, e3, e2, e1) (simp append_assoc)
