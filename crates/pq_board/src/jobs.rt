@@ -43,7 +43,7 @@ impl Jobs {
     }
 
     /// Adds a job behind the others. Where memory is refused, the jobs are as they were.
-    #[tactic(auto, using(crate::proofs::Listing::ends_more, crate::proofs::Listing::lists_more, crate::proofs::Listing::joined))]
+    #[tactic(auto, using(crate::proofs::Listing::ends_more, crate::proofs::Listing::lists_more, crate::proofs::Listing::joined, crate::proofs::Listing::length_lists))]
     pub fn add(&mut self, places: &[u64]) -> Result<(), AllocError>
         requires rising { IsStrictlyIncreasing (concat self.old ++ places.now) }
         requires few { length self.old < MAX_JOBS }
@@ -74,7 +74,8 @@ impl Jobs {
     {
         let job = job as usize;
         let start = start_of(&self.ends, job) as usize;
-        &self.places[start..self.ends[job] as usize]
+        let end = start_of(&self.ends, job + 1) as usize;
+        &self.places[start..end]
     }
 }
 

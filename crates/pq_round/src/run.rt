@@ -13,6 +13,7 @@ use std::alloc::{AllocError, Global};
 /// Gives the gates of each job to the oracle. The list has one worked segment for each job, in their
 /// order, and its ticket is the job's number. Each place of a job holds a gate, and a job has at most
 /// 2 * Omega places. Omega is 2 to 1,024.
+#[tactic(auto, using(std::proofs::lemmas::List::get_or_push, std::proofs::lemmas::List::get_or_append_left, std::proofs::lemmas::List::length_push))]
 pub fn run_round<'r>(
     alloc: Global,
     array: &GateArray,
