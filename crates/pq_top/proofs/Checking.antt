@@ -1,8 +1,8 @@
 -- A list of gates has a redex within a span exactly where one of its runs of that length has one.
-use Rattle.std.proofs.Common.{◌≡◌, ℕ, zero, suc, ◌+◌, ◌-◌, ◌<◌, ◌≤◌, true, false, eqb, Bool, List, [], ◌∷◌, ◌++◌, length, map, take, drop, get_or, refl, ap, sym, subst, ◌∙◌, inl, inr, arith}
+use Rattle.std.proofs.Common.{◌≡◌, ℕ, zero, suc, ◌+◌, ◌-◌, ◌<◌, ◌≤◌, eqb, Bool, List, [], ◌∷◌, ◌++◌, length, map, take, drop, get_or, refl, ap, sym, subst, ◌∙◌, inl, inr, arith}
 use Rattle.std.specs.Prelude.{All, AllPairs, ◌||◌}
 use Rattle.std.proofs.lemmas.Bool.{eqb-true, eq-eqb}
-use Rattle.std.proofs.lemmas.List.{get_or_default, get_or-map, get_or_append_left, get_or-append-add, length-map, length-append, length-take, length-drop, take-append-drop}
+use Rattle.std.proofs.lemmas.List.{get_or_default, get_or-map, get_or_append_left, get_or-append-add, length-map, length-take, length-drop, take-append-drop}
 use Rattle.pq_gate.specs.declared.gate.Gate.{Gate}
 use Rattle.pq_gate.specs.declared.gate.Gate.TheVariants.{H}
 use Rattle.pq_gate.specs.Commuting.{Commutes}
@@ -15,7 +15,7 @@ use Rattle.pq_rules.specs.Row.{RowView}
 use Rattle.pq_rules.specs.Table.{builtin_rows}
 use Rattle.pq_match.specs.declared.redex.Redex.{Redex}
 use Rattle.pq_match.specs.Found.{IsFirstFound, seen}
-use Rattle.pq_match.specs.Redex.{RedexView, IsRedex, IsWithin, HasNoRedex, AreFree, gate_at, is_chosen, last_place}
+use Rattle.pq_match.specs.Redex.{RedexView, IsRedex, IsWithin, AreFree, gate_at, is_chosen, last_place}
 use Rattle.pq_match.specs.First.{IsFirst, HasNoneWithin}
 use Rattle.pq_loop.specs.Round.{run}
 use Rattle.pq_loop.specs.Opt.{Local}

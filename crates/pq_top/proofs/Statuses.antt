@@ -1,25 +1,21 @@
 -- What a status says, from what came of the work.
-use Rattle.std.proofs.Common.{◌≡◌, ℕ, ◌+◌, ◌≤◌, Bool, true, false, List, [], length, Option, None, Some, Ok, Err, refl, sym, ap, subst, ◌∙◌, inl, inr, ◌⊎◌, arith}
+use Rattle.std.proofs.Common.{◌≡◌, ℕ, ◌+◌, ◌≤◌, Bool, true, false, List, Option, None, Some, Err, refl, sym, ap, subst, ◌∙◌, inl, inr, arith}
 use Rattle.std.specs.Prelude.{IfSome}
 use Rattle.pq_io.specs.Whole.{ReadsToEnd, TakesFirst}
-use Rattle.pq_text.specs.Program.{ProgramView}
 use Rattle.pq_read.specs.declared.program.Options.{Options}
-use Rattle.pq_read.specs.declared.refusal.Refusal.{Refusal as Fault}
 use Rattle.pq_read.specs.Reads.{Reads, Refused as RefusedFor}
 use Rattle.pq_command.specs.declared.fault.UsageFault.{UsageFault}
 use Rattle.pq_command.specs.declared.settings.Settings.{Settings}
-use Rattle.pq_command.specs.declared.settings.Settings.TheVariants as settings
 use Rattle.pq_command.specs.Asked.{asked}
 use Rattle.pq_top.specs.declared.answer.Answer.{Answer}
 use Rattle.pq_top.specs.declared.answer.Answer.TheVariants.{Done, Usage, Refused, ReadFault, WriteFault, OutOfMemory}
 use Rattle.pq_top.specs.declared.answer.Refusal.{Refusal}
 use Rattle.pq_top.specs.declared.answer.Refusal.TheVariants.{Text, TooLong}
 use Rattle.pq_top.specs.Device.{Moved, HasFaulted, Noted}
-use Rattle.pq_top.specs.Notes.{out_of_memory_line}
-use Rattle.pq_top.specs.Outputs.{Makes, IsAccepted, input_limit}
-use Rattle.pq_top.specs.Request.{AskFor, AreFaulty, AskToRead, AskToMake, reads_by}
-use Rattle.pq_top.specs.Answers.{HasRead, Produces, Refuses, IsDone, IsUsage, IsRefused, IsReadFault, IsWriteFault, IsStatus, IsUnlessMemory, IsDoneUnlessMemory}
-use Rattle.pq_top.specs.Work.{Means, LeavesSource, LeavesSink, LeavesNotes, status_of, status_by, note_line}
+use Rattle.pq_top.specs.Outputs.{IsAccepted, input_limit}
+use Rattle.pq_top.specs.Request.{AskFor, AskToRead, reads_by}
+use Rattle.pq_top.specs.Answers.{Refuses, IsRefused, IsDoneUnlessMemory}
+use Rattle.pq_top.specs.Work.{Means, status_of, status_by, note_line}
 
 -- the status of work that was done is 0 or 1
 found_below : (found : Bool) → status_by found ≤ 1

@@ -1,22 +1,20 @@
 -- What the parts of the work mean together.
-use Rattle.std.proofs.Common.{◌≡◌, ℕ, Bool, true, false, List, Option, None, Some, Result, Ok, Err, refl, sym, ap, subst, ◌∙◌}
-use Rattle.std.specs.Prelude.{IfOk, IfErr, IsSome}
-use Rattle.pq_io.specs.Whole.{ReadsToEnd, ReadsUpToFault}
+use Rattle.std.proofs.Common.{◌≡◌, ℕ, List, Option, None, Some, Result, Ok, Err, refl, sym, subst}
+use Rattle.std.specs.Prelude.{IfErr, IsSome}
+use Rattle.pq_io.specs.Whole.{ReadsToEnd}
 use Rattle.pq_read.specs.declared.program.Options.{Options}
 use Rattle.pq_read.specs.declared.refusal.ReadError.{ReadError}
 use Rattle.pq_read.specs.declared.refusal.ReadError.TheVariants as errors
 use Rattle.pq_read.specs.Reads.{IsRefusedFor as TextRefusedFor}
 use Rattle.pq_command.specs.declared.settings.Settings.{Settings}
-use Rattle.pq_command.specs.Asked.{asked}
 use Rattle.pq_top.specs.declared.answer.Answer.{Answer}
-use Rattle.pq_top.specs.declared.answer.Answer.TheVariants.{Done, Usage, Refused, ReadFault, WriteFault, OutOfMemory}
+use Rattle.pq_top.specs.declared.answer.Answer.TheVariants.{Refused, ReadFault, OutOfMemory}
 use Rattle.pq_top.specs.declared.answer.Output.{Output}
 use Rattle.pq_top.specs.declared.answer.Refusal.TheVariants.{Text, TooLong}
 use Rattle.pq_top.specs.Device.{Moved}
-use Rattle.pq_top.specs.Outputs.{Makes, input_limit}
-use Rattle.pq_top.specs.Request.{AskFor, AskToMake, reads_by}
-use Rattle.pq_top.specs.Answers.{HasRead, Produces}
-use Rattle.pq_top.specs.Work.{Means, LeavesSource, LeavesSink, Gives, FailsFor, FailsToRead, WritesOutput, status_by, answered_by}
+use Rattle.pq_top.specs.Outputs.{input_limit}
+use Rattle.pq_top.specs.Request.{AskFor, reads_by}
+use Rattle.pq_top.specs.Work.{Means, FailsFor, FailsToRead, answered_by}
 
 some_way : (way : Option Options) → IsSome way → (options : Options) × (way ≡ Some options)
 some_way None some = absurd (cc)

@@ -13,7 +13,7 @@ use Rattle.pq_top.specs.declared.answer.Refusal.{Refusal}
 use Rattle.pq_top.specs.declared.answer.Refusal.TheVariants.{Text, TooLong}
 use Rattle.pq_top.specs.declared.answer.Answer.TheVariants.{Done, Usage, Refused, ReadFault, WriteFault, OutOfMemory}
 use Rattle.pq_top.specs.Device.{Moved}
-use Rattle.pq_top.specs.Request.{AskFor, AskToRead, reads_by}
+use Rattle.pq_top.specs.Request.{AskToRead, reads_by}
 use Rattle.pq_top.specs.Outputs.{Makes, input_limit}
 use Rattle.pq_top.specs.Notes.{usage_line, refusal_line, read_fault_line, write_fault_line, out_of_memory_line}
 use Rattle.pq_top.specs.Answers.{HasRead, Produces, IsDone, Refuses}

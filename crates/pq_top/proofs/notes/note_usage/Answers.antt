@@ -2,7 +2,7 @@ use Rattle.std.proofs.Common.{refl, codes, []}
 use Rattle.pq_command.specs.CommandLine.{name_of as switch_name}
 use Rattle.pq_top.proofs.Noting.{usage_noted}
 use Rattle.pq_top.proofs.notes.note_usage.Goals as goal
-use Rattle.pq_command.specs.declared.fault.UsageFault.TheVariants.{Words, Command, Unwanted, Missing, Number, Range}
+use Rattle.pq_command.specs.declared.fault.UsageFault.TheVariants.{Words, Command, Missing}
 
 pub returns-in-Words : goal.returns-in-Words
 returns-in-Words g c = rw c.in-Words.is (usage_noted _ (codes "words") [] Words refl c.put.ensures)
