@@ -23,3 +23,4 @@ pub mod Cutting
 pub mod Numbering
 pub mod Moving
 pub mod Collecting
+pub mod Shortening

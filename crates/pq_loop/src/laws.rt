@@ -17,8 +17,8 @@ pub fn rounds_have_one_result()
 {}
 
 /// A round leads a state to a state. Where each run of at most Omega gates that has a redex lay in a finger's
-/// segment, it does after. The matrix turns by the round's phase, and the fingers and twice the gates fall
-/// by the selected fingers at least.
+/// segment, it does after. The matrix turns by the round's phase, there are no more gates than before, and the
+/// fingers and twice the gates fall by the selected fingers at least.
 pub fn rounds_keep_cover()
     ensures state { (rules : List RowView) (window : ℕ) (before after : State) (step : Step) → 0 < window → All IsSound rules → IsState before
         → Round rules window before after step → IsState after }
@@ -29,6 +29,8 @@ pub fn rounds_keep_cover()
     ensures bound { (rules : List RowView) (window : ℕ) (before after : State) (step : Step) → 0 < window → All IsSound rules → IsState before
         → Round rules window before after step
         → length after.fingers + 2 * length after.gates + step.selected ≤ length before.fingers + 2 * length before.gates }
+    ensures shorter { (rules : List RowView) (window : ℕ) (before after : State) (step : Step) → All IsSound rules → IsState before
+        → Round rules window before after step → length after.gates ≤ length before.gates }
     ensures selects { (rules : List RowView) (window : ℕ) (before after : State) (step : Step) → Round rules window before after step
         → 0 < length before.fingers → 0 < step.selected }
 {}
@@ -41,13 +43,15 @@ pub fn opt_has_one_result()
         → Opt rules window gates total → Opt rules window gates other → total ≡ other }
 {}
 
-/// What the rounds end with: no run of at most Omega gates has a redex, the matrix is kept up to the phase, and
-/// there were at most as many calls as first fingers and twice the removed gates.
+/// What the rounds end with: no run of at most Omega gates has a redex, the matrix is kept up to the phase, there
+/// are no more gates than before, and there were at most as many calls as first fingers and twice the removed gates.
 pub fn opt_is_local()
     ensures local { (rules : List RowView) (window : ℕ) (gates : List Gate) (total : Total) → 0 < window → All IsSound rules
         → Opt rules window gates total → Local rules window total.gates }
     ensures same { (rules : List RowView) (window : ℕ) (gates : List Gate) (total : Total) (n : ℕ) → 0 < window → All IsSound rules
         → Opt rules window gates total → IsCircuit n gates → Same n gates total.gates total.phase }
+    ensures shorter { (rules : List RowView) (window : ℕ) (gates : List Gate) (total : Total) → 0 < window → All IsSound rules
+        → Opt rules window gates total → length total.gates ≤ length gates }
     ensures bound { (rules : List RowView) (window : ℕ) (gates : List Gate) (total : Total) → 0 < window → All IsSound rules
         → Opt rules window gates total
         → total.calls + 2 * length total.gates ≤ length (first_fingers (length gates) window) + 2 * length gates }

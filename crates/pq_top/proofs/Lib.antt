@@ -3,6 +3,5 @@ mod Leading
 mod Lines
 mod Noting
 mod Optimising
-mod Shortening
 mod Statuses
 mod Working

@@ -22,7 +22,7 @@ use Rattle.pq_write.specs.Report.{report_text}
 use Rattle.pq_generate.specs.Generated.{generated}
 use Rattle.pq_top.specs.Outputs.{with_gates, total_of, report_of, KeepsMatrix, IsOptimised, IsOptText, IsBenchText}
 use Rattle.pq_top.proofs.Leading.{IsOnItsWay, led_to_end}
-use Rattle.pq_top.proofs.Shortening.{opt_shorter}
+use Rattle.pq_loop.proofs.Shortening.{opt_shorter}
 
 -- What holds of all that rounds from the first fingers leave.
 pub record IsLeft (w : ℕ) (gates : List Gate) (total : Total) : Type 0 where

@@ -1,5 +1,6 @@
 use Rattle.pq_loop.proofs.Ending.{opt_local, opt_same, opt_bound}
 use Rattle.pq_loop.proofs.Falling.{round_falls}
+use Rattle.pq_loop.proofs.Shortening.{opt_shorter}
 use Rattle.pq_loop.proofs.laws.opt_is_local.Goals as goal
 
 pub returns-clause-local : goal.returns-clause-local
@@ -7,6 +8,9 @@ returns-clause-local c = opt_local
 
 pub returns-clause-same : goal.returns-clause-same
 returns-clause-same c = opt_same
+
+pub returns-clause-shorter : goal.returns-clause-shorter
+returns-clause-shorter c = opt_shorter
 
 pub returns-clause-bound : goal.returns-clause-bound
 returns-clause-bound c = opt_bound round_falls

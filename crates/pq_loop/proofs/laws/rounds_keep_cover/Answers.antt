@@ -1,6 +1,7 @@
 use Rattle.pq_loop.proofs.Covering.{state_after, cover_after}
 use Rattle.pq_loop.proofs.Falling.{round_falls, round_selects}
 use Rattle.pq_loop.proofs.Joining.{round_same}
+use Rattle.pq_loop.proofs.Shortening.{round_shorter}
 use Rattle.pq_loop.proofs.laws.rounds_keep_cover.Goals as goal
 
 pub returns-clause-state : goal.returns-clause-state
@@ -14,6 +15,9 @@ returns-clause-same c = round_same
 
 pub returns-clause-bound : goal.returns-clause-bound
 returns-clause-bound c = round_falls
+
+pub returns-clause-shorter : goal.returns-clause-shorter
+returns-clause-shorter c = round_shorter
 
 pub returns-clause-selects : goal.returns-clause-selects
 returns-clause-selects c = round_selects
