@@ -112,7 +112,8 @@ impl Loop {
         self.fingers.places().len() as u64
     }
 
-    /// One round, while there is a finger.
+    /// One round, while there is a finger: the segments of the selected fingers are given to the oracle, its answers
+    /// are put in their places, and the fingers are settled and moved. Where memory is refused, the loop is spent.
     pub fn round(self, alloc: Global) -> Result<(Loop, Step), AllocError>
         requires { 0 < length self.state.fingers }
         ensures round { IfOk result (λ made. Round self.rules self.omega self.state made.0.state made.1) }
@@ -150,7 +151,8 @@ impl Loop {
         Ok((after, step))
     }
 
-    /// What is left, where there is no finger any more: no run of at most Omega gates has a redex.
+    /// What is left, where there is no finger any more: no run of at most Omega gates has a redex. Where memory is
+    /// refused, the loop is spent.
     pub fn finish(self, alloc: Global) -> Result<Finished, AllocError>
         requires { self.state.fingers ≡ [] }
         ensures gates { IfOk result (λ made. made.gates.items ≡ self.state.gates) }
