@@ -317,10 +317,3 @@ rewriting_shortens rules gates redex is sound =
     ap (λ (c : List Gate). length c) (chosen_pattern gates is.row.pattern redex.wires redex.places is.matches) ∙
     length-map is.row.pattern (renamed redex.wires) in
     omega (arith, length-append u (q ++ back), length-append q back, length-map is.row.replacement (renamed redex.wires), sound.shorter)
-
--- the row of a number is one of the rows
-pub IsSound-numbered : (rules : List RowView) (number : ℕ) (row : RowView) → row_numbered rules number ≡ Some row →
-    All IsSound rules → IsSound row
-IsSound-numbered rules zero row numbered sound = absurd (cc)
-IsSound-numbered rules (suc k) row numbered sound =
-    subst IsSound (get_or_from_slice_get rules k row row numbered) (sound k row (slice_get_within rules k row numbered))

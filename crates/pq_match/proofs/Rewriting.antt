@@ -8,7 +8,7 @@ use Rattle.pq_rules.specs.Row.{RowView, IsSound, Uses}
 use Rattle.pq_match.specs.Redex.{IsMatch, gate_at, last_place}
 use Rattle.pq_match.specs.Rewrite.{unchosen, rewritten}
 use Rattle.pq_match.proofs.RewritingLists.{moved_down}
-use Rattle.pq_match.proofs.RewritingWires.{all_renamed_alike}
+use Rattle.pq_match.proofs.RewritingWires.{all_renamed_same}
 
 -- lists that are alike from a place on are alike from each later place on
 alike_later : (xs ys : List Gate) (i j : ℕ) → i ≤ j → drop i xs ≡ drop i ys → drop j xs ≡ drop j ys
@@ -27,7 +27,7 @@ replacement_alike : (row : RowView) (read wires : List ℕ) → IsSound row
     → ((w : ℕ) → Uses row.pattern w → get_or read w 0 ≡ get_or wires w 0)
     → map (renamed read) row.replacement ≡ map (renamed wires) row.replacement
 replacement_alike row read wires sound right =
-    all_renamed_alike row.wires read wires row.replacement sound.same.right (λ w inside. right w (sound.used w inside))
+    all_renamed_same row.wires read wires row.replacement sound.same.right (λ w inside. right w (sound.used w inside))
 
 -- the gates were closed up before `end`, the replacement put behind them, and the rest moved down behind it
 pub rewritten_is : (row : RowView) (old closed filled moved : List Gate) (places wires read : List ℕ) (kept end : ℕ) → IsSound row

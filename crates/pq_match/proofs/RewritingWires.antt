@@ -27,23 +27,24 @@ IsCircuit_at n [] k d is inside = absurd (omega arith)
 IsCircuit_at n (gate ∷ gates) zero d is inside = is.0
 IsCircuit_at n (gate ∷ gates) (suc k) d is inside = IsCircuit_at n gates k d is.1 (omega arith)
 
-renamed_alike : (n : ℕ) (xs ys : List ℕ) (gate : Gate) → IsOnWires n gate → ((w : ℕ) → w < n → get_or xs w 0 ≡ get_or ys w 0)
+-- two renamings that agree on the wires of a gate rename it alike
+renamed_same : (n : ℕ) (xs ys : List ℕ) (gate : Gate) → IsOnWires n gate → ((w : ℕ) → w < n → get_or xs w 0 ≡ get_or ys w 0)
     → renamed xs gate ≡ renamed ys gate
-renamed_alike n xs ys (H wire) is alike = ap H (alike wire is)
-renamed_alike n xs ys (X wire) is alike = ap X (alike wire is)
-renamed_alike n xs ys (Phase eighths wire) is alike = ap (Phase eighths) (alike wire is)
-renamed_alike n xs ys (Cx control target) is alike =
+renamed_same n xs ys (H wire) is alike = ap H (alike wire is)
+renamed_same n xs ys (X wire) is alike = ap X (alike wire is)
+renamed_same n xs ys (Phase eighths wire) is alike = ap (Phase eighths) (alike wire is)
+renamed_same n xs ys (Cx control target) is alike =
     let c : get_or xs control 0 ≡ get_or ys control 0 = alike control is.0 in
     let t : get_or xs target 0 ≡ get_or ys target 0 = alike target is.1 in
     cc
 
 -- two renamings that agree on the wires of a circuit rename it alike
-pub all_renamed_alike : (n : ℕ) (xs ys : List ℕ) (gates : List Gate) → IsCircuit n gates
+pub all_renamed_same : (n : ℕ) (xs ys : List ℕ) (gates : List Gate) → IsCircuit n gates
     → ((w : ℕ) → w < n → get_or xs w 0 ≡ get_or ys w 0) → map (renamed xs) gates ≡ map (renamed ys) gates
-all_renamed_alike n xs ys [] is alike = refl
-all_renamed_alike n xs ys (gate ∷ gates) is alike =
-    let first : renamed xs gate ≡ renamed ys gate = renamed_alike n xs ys gate is.0 alike in
-    let rest : map (renamed xs) gates ≡ map (renamed ys) gates = all_renamed_alike n xs ys gates is.1 alike in
+all_renamed_same n xs ys [] is alike = refl
+all_renamed_same n xs ys (gate ∷ gates) is alike =
+    let first : renamed xs gate ≡ renamed ys gate = renamed_same n xs ys gate is.0 alike in
+    let rest : map (renamed xs) gates ≡ map (renamed ys) gates = all_renamed_same n xs ys gates is.1 alike in
     cc
 
 -- the gate at a chosen place is the pattern's, renamed
