@@ -1,7 +1,7 @@
 -- Where the wires of a row are led to, read off the gates that match its pattern.
 use Rattle.std.proofs.Common.{◌≡◌, ℕ, ◌+◌, ◌<◌, ◌≤◌, List, [], ◌∷◌, length, map, get_or, zero, suc, sym, refl, ap, ◌∙◌, subst, inl, inr, arith}
 use Rattle.std.proofs.lemmas.Bool.{cases_lt}
-use Rattle.std.proofs.lemmas.List.{get_or-map, get_or_default}
+use Rattle.std.proofs.lemmas.List.{length-map, get_or-map, get_or_default}
 use Rattle.pq_gate.specs.Circuit.{IsOnWires, IsCircuit}
 use Rattle.pq_gate.specs.Commuting.{Touches}
 use Rattle.pq_gate.specs.declared.gate.Gate.{Gate}
@@ -47,13 +47,18 @@ all_renamed_same n xs ys (gate ∷ gates) is alike =
     let rest : map (renamed xs) gates ≡ map (renamed ys) gates = all_renamed_same n xs ys gates is.1 alike in
     cc
 
--- the gate at a chosen place is the pattern's, renamed
-pub chosen_at : (gates : List Gate) (places : List ℕ) (pattern : List Gate) (wires : List ℕ) (k : ℕ) (d : Gate)
-    → map (gate_at gates) places ≡ map (renamed wires) pattern → k < length places → k < length pattern
-    → gate_at gates (get_or places k 0) ≡ renamed wires (get_or pattern k d)
-chosen_at gates places pattern wires k d same left right =
-    sym (get_or-map (gate_at gates) places k 0 d left) ∙ ap (λ (xs : List Gate). get_or xs k d) same
-    ∙ get_or-map (renamed wires) pattern k d d right
+-- where the chosen gates are the pattern's, renamed, there is a place for each gate of the pattern
+pub places_long : (gates pattern : List Gate) (wires places : List ℕ) → map (gate_at gates) places ≡ map (renamed wires) pattern
+    → length places ≡ length pattern
+places_long gates pattern wires places same =
+    sym (length-map places (gate_at gates)) ∙ ap length same ∙ length-map pattern (renamed wires)
+
+-- the gate at each place is the pattern's, renamed
+pub chosen_at : (gates pattern : List Gate) (wires places : List ℕ) → map (gate_at gates) places ≡ map (renamed wires) pattern
+    → (k : ℕ) (d : Gate) → k < length pattern → gate_at gates (get_or places k 0) ≡ renamed wires (get_or pattern k d)
+chosen_at gates pattern wires places same k d inside =
+    sym (get_or-map (gate_at gates) places k 0 d (omega (arith, places_long gates pattern wires places same)))
+    ∙ ap (λ (xs : List Gate). get_or xs k d) same ∙ get_or-map (renamed wires) pattern k d d inside
 
 -- the wires of the first `count` gates of the pattern are read right
 abbrev pub AreRead : List Gate → ℕ → List ℕ → List ℕ → Type 0
