@@ -10,23 +10,6 @@ use Rattle.pq_rules.specs.Renaming.{renamed}
 use Rattle.pq_rules.specs.Row.{Uses}
 use Rattle.pq_match.specs.Redex.{gate_at}
 
-wider : (m n : ℕ) (gate : Gate) → m ≤ n → IsOnWires m gate → IsOnWires n gate
-wider m n (H wire) le is = omega arith
-wider m n (X wire) le is = omega arith
-wider m n (Phase eighths wire) le is = omega arith
-wider m n (Cx control target) le is = (omega (arith, is.0), omega (arith, is.1), is.2)
-
--- a circuit on some wires is one on more
-pub IsCircuit_wider : (m n : ℕ) (gates : List Gate) → m ≤ n → IsCircuit m gates → IsCircuit n gates
-IsCircuit_wider m n [] le is = tt
-IsCircuit_wider m n (gate ∷ gates) le is = (wider m n gate le is.0, IsCircuit_wider m n gates le is.1)
-
--- each gate of a circuit is on its wires
-pub IsCircuit_at : (n : ℕ) (gates : List Gate) (k : ℕ) (d : Gate) → IsCircuit n gates → k < length gates → IsOnWires n (get_or gates k d)
-IsCircuit_at n [] k d is inside = absurd (omega arith)
-IsCircuit_at n (gate ∷ gates) zero d is inside = is.0
-IsCircuit_at n (gate ∷ gates) (suc k) d is inside = IsCircuit_at n gates k d is.1 (omega arith)
-
 -- two renamings that agree on the wires of a gate rename it alike
 renamed_same : (n : ℕ) (xs ys : List ℕ) (gate : Gate) → IsOnWires n gate → ((w : ℕ) → w < n → get_or xs w 0 ≡ get_or ys w 0)
     → renamed xs gate ≡ renamed ys gate

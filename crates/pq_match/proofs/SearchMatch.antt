@@ -14,7 +14,8 @@ use Rattle.pq_match.specs.Wires.{wire_of}
 use Rattle.pq_match.specs.Search.{AreAlike, IsFitting, IsPassed, IsFull}
 use Rattle.pq_match.proofs.RewritingWires.{places_long, chosen_at}
 use Rattle.pq_match.proofs.SearchChoice.{IsChoice, choose}
-use Rattle.pq_match.proofs.SearchGates.{kind-renamed, wire_below, gate_on_wires, wire_used, renamed_by_wires, renamed_alike}
+use Rattle.pq_match.proofs.SearchGates.{kind-renamed, wire_below, gate_on_wires, renamed_by_wires, renamed_alike}
+use Rattle.pq_match.proofs.SearchTouches.{touched}
 use Rattle.pq_match.proofs.SearchPlaces.{last_place_at, place_upto_last, place_is_chosen, passed_not_chosen, chosen_stands, not_chosen_passed}
 
 -- Places where a renamed pattern stands are full.
@@ -78,10 +79,10 @@ module _ (n : ℕ) (gates pattern : List Gate) (end : ℕ) (places : List ℕ) (
   partner : (w : ℕ) → w < n → (v : ℕ) × GoesWith gates pattern places w v
   partner w below =
       let user = used w below in
-      let side = wire_used user.1 w user.4 in
+      let side = touched user.1 w user.4 in
       let at : gate_at pattern user.0 ≡ user.1 = get_or_default pattern user.0 (H 0) user.1 user.2 ∙ user.3 in (
         wire_of side.0 (gate_at gates (get_or places user.0 0)),
-        record { at = user.0; below = user.2; second = side.0; is = ap (wire_of side.0) at ∙ side.1; goes = refl },
+        record { at = user.0; below = user.2; second = side.0; is = ap (wire_of side.0) at ∙ sym side.1; goes = refl },
       )
 
   pub full_choice : IsChoice (GoesWith gates pattern places) n
