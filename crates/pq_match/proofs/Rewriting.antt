@@ -1,11 +1,11 @@
 -- What rewriting in place leaves is the rewritten list.
 use Rattle.std.proofs.Common.{◌≡◌, ℕ, ◌+◌, ◌-◌, ◌<◌, ◌≤◌, List, ◌++◌, length, map, get_or, take, drop, sym, ap, ◌∙◌, arith, append_assoc}
 use Rattle.std.specs.List.{copy_within}
-use Rattle.std.proofs.lemmas.List.{drop-drop, length-map, take-take, take-append-le}
+use Rattle.std.proofs.lemmas.List.{drop-drop, take-take, take-append-le}
 use Rattle.pq_gate.specs.declared.gate.Gate.{Gate}
 use Rattle.pq_rules.specs.Renaming.{renamed}
 use Rattle.pq_rules.specs.Row.{RowView, IsSound, Uses}
-use Rattle.pq_match.specs.Redex.{IsMatch, gate_at, last_place}
+use Rattle.pq_match.specs.Redex.{IsMatch, last_place}
 use Rattle.pq_match.specs.Rewrite.{unchosen, rewritten}
 use Rattle.pq_match.proofs.RewritingLists.{moved_down}
 use Rattle.pq_match.proofs.RewritingWires.{all_renamed_same, places_long}

@@ -5,7 +5,6 @@ use Rattle.pq_gate.specs.declared.gate.Eighths.TheVariants.{T, S, Z, Sdg, Tdg}
 use Rattle.pq_gate.specs.declared.gate.Gate.{Gate}
 use Rattle.pq_gate.specs.declared.gate.Gate.TheVariants.{H, X, Phase, Cx}
 use Rattle.pq_gate.specs.Circuit.{IsOnWires, IsCircuit}
-use Rattle.pq_gate.specs.Commuting.{Touches}
 use Rattle.pq_gate.specs.Eighths.{eighths_of}
 use Rattle.pq_rules.specs.Kinds.{kind_of}
 use Rattle.pq_rules.specs.Renaming.{renamed}

@@ -1,4 +1,4 @@
-ghost use Rattle.std.specs.Prelude.{◌≡◌, ℕ, ◌+◌, ◌%◌, ◌<◌, ◌≤◌, ◌↔◌, IsTrue, true, false, [], ◌∷◌, length, slice_index, slice_index_or, slice_set};
+ghost use Rattle.std.specs.Prelude.{◌≡◌, ℕ, ◌+◌, ◌%◌, ◌<◌, ◌≤◌, ◌↔◌, IsTrue, true, false, length, slice_index, slice_index_or, slice_set};
 ghost use Rattle.pq_gate.specs.Commuting.{Touches, Commutes};
 ghost use Rattle.pq_rules.specs.Kinds.{kind_of};
 ghost use Rattle.pq_match.specs.Redex.{gate_at};

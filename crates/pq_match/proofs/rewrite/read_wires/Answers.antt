@@ -1,4 +1,3 @@
-use Rattle.std.proofs.Common.{arith}
 use Rattle.pq_gate.specs.declared.gate.Gate.TheVariants.{H}
 use Rattle.pq_match.proofs.RewritingWires.{chosen_at, read_more}
 use Rattle.pq_match.proofs.rewrite.read_wires.Goals as goal
