@@ -5,7 +5,7 @@ use Rattle.pq_gate.specs.declared.gate.Gate.{Gate}
 use Rattle.pq_gate.specs.Commuting.{Touches, Commutes}
 use Rattle.pq_rules.specs.Kinds.{kind_of}
 use Rattle.pq_match.specs.Redex.{gate_at}
-use Rattle.pq_match.specs.Search.{IsPassed, IsFull, Begins}
+use Rattle.pq_match.specs.Search.{AreApart, IsPassed, IsFull, Begins}
 use Rattle.pq_match.proofs.GrowingWalk.{IsWalked}
 use Rattle.pq_match.proofs.SearchTouches.{commute_apart, share_alike}
 
@@ -18,7 +18,7 @@ pub record AreSkipped (gates : List Gate) (used : List Bool) (free : Bool) (next
 pub walk_skips : (gates pattern : List Gate) (end : ℕ) (places : List ℕ) (count place next : ℕ) (used : List Bool) (free : Bool) →
     IsWalked gates pattern end places count place → count < length pattern → place ≤ next →
     ((s w : ℕ) → s < count → Touches (gate_at gates (get_or places s 0)) w → get_or used (w % 64) false ≡ true) →
-    (free ≡ false → ((before w : ℕ) → before < count → Touches (gate_at pattern before) w → Touches (gate_at pattern count) w → ⊥) → ⊥) →
+    (free ≡ false → ¬ ((before : ℕ) → before < count → AreApart (gate_at pattern before) (gate_at pattern count))) →
     ((p w : ℕ) → place ≤ p → p < next → Touches (gate_at gates p) w → get_or used (w % 64) false ≡ false) →
     ((p : ℕ) → place ≤ p → p < next → free ≡ true → kind_of (gate_at gates p) ≡ kind_of (gate_at pattern count) → ⊥) →
     IsWalked gates pattern end places count next
@@ -30,8 +30,8 @@ walk_skips gates pattern end places count place next used free walked more upto 
   none = λ other full begins. none other full begins (cases_order (get_or other count 0) next);
 }
   where
-    apart : (p : ℕ) → place ≤ p → p < next → (s w : ℕ) → s < count → Touches (gate_at gates (get_or places s 0)) w → Touches (gate_at gates p) w → ⊥
-    apart p from less s w below uses_chosen uses =
+    apart : (p : ℕ) → place ≤ p → p < next → (s : ℕ) → s < count → AreApart (gate_at gates (get_or places s 0)) (gate_at gates p)
+    apart p from less s below w uses_chosen uses =
         let yes : get_or used (w % 64) false ≡ true = are_used s w below uses_chosen in
         let no : get_or used (w % 64) false ≡ false = unused p w from less uses in
         let clash : true ≡ false = sym yes ∙ no in absurd (cc)
@@ -39,18 +39,18 @@ walk_skips gates pattern end places count place next used free walked more upto 
     clear : (s p : ℕ) → s < count → IsPassed places count p → get_or places s 0 < p → p < next → (p ≡ place) ⊎ ((p < place) ⊎ (place < p)) →
         Commutes (gate_at gates (get_or places s 0)) (gate_at gates p)
     clear s p below passed behind less (inl same) =
-        commute_apart (gate_at gates (get_or places s 0)) (gate_at gates p) (λ w. apart p (omega arith) less s w below)
+        commute_apart (gate_at gates (get_or places s 0)) (gate_at gates p) (apart p (omega arith) less s below)
     clear s p below passed behind less (inr (inl lower)) = walked.next.clear s p below passed behind lower
     clear s p below passed behind less (inr (inr higher)) =
-        commute_apart (gate_at gates (get_or places s 0)) (gate_at gates p) (λ w. apart p (omega arith) less s w below)
+        commute_apart (gate_at gates (get_or places s 0)) (gate_at gates p) (apart p (omega arith) less s below)
 
     never : (other : List ℕ) → IsFull gates pattern end other → Begins places count other → get_or other count 0 < next → (b : Bool) → free ≡ b → ⊥
     never other full begins less true is =
         other_kind (get_or other count 0) (walked.none other full begins) less is (full.fitting count more).kind
-    never other full begins less false is = bound is (λ before w below uses_before uses.
+    never other full begins less false is = bound is (λ before below w uses_before uses.
         (let shared = share_alike (gate_at pattern before) (gate_at pattern count) (gate_at gates (get_or other before 0)) (gate_at gates (get_or other count 0))
         ((full.fitting count more).wires before (omega arith)) w uses_before uses in
-        apart (get_or other count 0) (walked.none other full begins) less before shared.0 below
+        apart (get_or other count 0) (walked.none other full begins) less before below shared.0
         (subst (λ (p : ℕ). Touches (gate_at gates p) shared.0) (begins before below) shared.1) shared.2))
 
     none : (other : List ℕ) → IsFull gates pattern end other → Begins places count other →

@@ -1,12 +1,12 @@
 pub mod Moving
 mod FirstOfOrder
 mod FirstOfSettled
+pub mod RewritingWires
 pub mod OneFirst
 pub mod SomeFirst
 pub mod Rewriting
 pub mod RewritingLists
 pub mod RewritingPlaces
-pub mod RewritingWires
 pub mod Growing
 pub mod GrowingWalk
 pub mod GrowingSkips

@@ -1,12 +1,11 @@
 use Rattle.std.proofs.Common.{◌≡◌, ◌≢◌, ℕ, zero, suc, ◌+◌, ◌%◌, ◌<◌, ◌≤◌, ◌||◌, Bool, true, false, List, [], ◌∷◌, ◌++◌, ⊎_elim, length, map, get_or, take, drop, refl, ap, sym, subst, ◌∙◌, arith, append_assoc}
-use Rattle.std.specs.Prelude.{All, AllPairs, Some, if◌then◌else◌}
+use Rattle.std.specs.Prelude.{All, AllPairs, if◌then◌else◌}
 use Rattle.std.specs.List.{AllByRecursion}
 use Rattle.std.proofs.Math.Dec.{eqb}
 use Rattle.std.proofs.Math.Nat.{add-zero}
 use Rattle.std.proofs.lemmas.Bool.{eq-eqb, cases_eq}
 use Rattle.std.proofs.lemmas.Bool.Decides.{nat_tests}
 use Rattle.std.proofs.lemmas.List.{get_or-take, length-append, length-map, length-take, take-append-drop}
-use Rattle.std.proofs.lemmas.Option.{get_or_from_slice_get, slice_get_within}
 use Rattle.pq_gate.specs.declared.gate.Gate.{Gate}
 use Rattle.pq_gate.specs.declared.gate.Gate.TheVariants.{H, X, Phase, Cx}
 use Rattle.pq_gate.specs.Circuit.{IsOnWires, IsCircuit}
@@ -15,7 +14,6 @@ use Rattle.pq_gate.specs.Matrix.{Same}
 use Rattle.pq_gate.proofs.CircuitLaws.{IsCircuit-front, IsCircuit-back}
 use Rattle.pq_gate.proofs.MoveLaws.{same_moved_inside}
 use Rattle.pq_gate.proofs.SameLaws.{same_reflexive, same_transitive, same_in_front, same_behind, same_congruent}
-use Rattle.pq_rules.specs.Kinds.{row_numbered}
 use Rattle.pq_rules.specs.Renaming.{IsRenaming, renamed}
 use Rattle.pq_rules.specs.Row.{RowView, Uses, IsSound}
 use Rattle.pq_rules.proofs.LiftLaws.{same_renamed}
@@ -148,24 +146,24 @@ Rise-from [] lo from end before rise = tt
 Rise-from (p ∷ places) lo from end before rise = (omega arith, rise.1, rise.2)
 
 -- the chosen gates are those at the places
-pub chosen_at : (whole : List Gate) (places : List ℕ) (from end : ℕ) (c : List Gate) → StandAt whole from c →
+pub chosen_gates : (whole : List Gate) (places : List ℕ) (from end : ℕ) (c : List Gate) → StandAt whole from c →
     end ≡ from + length c → Rise from places end → chosen places from c ≡ map (gate_at whole) places
-chosen_at whole [] from end [] at ends rise = refl
-chosen_at whole (p ∷ places) from end [] at ends rise = absurd (omega arith)
-chosen_at whole [] from end (g ∷ c) at ends rise = chosen_at whole [] (from + 1) end c at.1 (omega arith) tt
-chosen_at whole (p ∷ places) from end (g ∷ c) at ends rise =
+chosen_gates whole [] from end [] at ends rise = refl
+chosen_gates whole (p ∷ places) from end [] at ends rise = absurd (omega arith)
+chosen_gates whole [] from end (g ∷ c) at ends rise = chosen_gates whole [] (from + 1) end c at.1 (omega arith) tt
+chosen_gates whole (p ∷ places) from end (g ∷ c) at ends rise =
     let tail : List Gate = chosen (p ∷ places) (from + 1) c in
     ⊎_elim
     (λ (here : p ≡ from).
     let front : g ≡ gate_at whole p = at.0 ∙ ap (gate_at whole) (sym here) in
     let rest : tail ≡ map (gate_at whole) places =
     chosen_after p places (from + 1) c (omega arith) ∙
-    chosen_at whole places (from + 1) end c at.1 (omega arith) (Rise-from places (p + 1) (from + 1) end (omega arith) rise.2) in
+    chosen_gates whole places (from + 1) end c at.1 (omega arith) (Rise-from places (p + 1) (from + 1) end (omega arith) rise.2) in
     ap (λ (b : Bool). if b || is_chosen places from then g ∷ tail else tail) (eq-eqb p from here) ∙ (λ i. front i ∷ rest i))
     (λ (differ : p ≢ from).
     let later : Rise (from + 1) (p ∷ places) end = (omega arith, rise.1, rise.2) in
     ap (λ (b : Bool). if b then g ∷ tail else tail) (not_yet (p ∷ places) from (from + 1) end later (omega arith)) ∙
-    chosen_at whole (p ∷ places) (from + 1) end c at.1 (omega arith) later)
+    chosen_gates whole (p ∷ places) (from + 1) end c at.1 (omega arith) later)
     (cases_eq p from)
 
 pub Rise-each : (places : List ℕ) (lo end : ℕ) → AllPairs (λ i j. i < j) places → All (λ i. i < end) places →
@@ -253,7 +251,7 @@ chosen_pattern gates pattern wires places matches =
     let front : List Gate = take count gates in
     let rise : Rise 0 places (length gates) =
     Rise-each places 0 (length gates) matches.rising matches.inside (λ k below. omega arith) in
-    chosen_at gates places 0 (length front) front (StandAt-front gates count) (omega arith) (Rise-front gates places 0 rise) ∙ matches.chosen
+    chosen_gates gates places 0 (length front) front (StandAt-front gates count) (omega arith) (Rise-front gates places 0 rise) ∙ matches.chosen
 
 -- the front of the list, with the pattern's gates gathered at its end
 gathered_pattern : (gates pattern : List Gate) (wires places : List ℕ) (n : ℕ) →
@@ -317,10 +315,3 @@ rewriting_shortens rules gates redex is sound =
     ap (λ (c : List Gate). length c) (chosen_pattern gates is.row.pattern redex.wires redex.places is.matches) ∙
     length-map is.row.pattern (renamed redex.wires) in
     omega (arith, length-append u (q ++ back), length-append q back, length-map is.row.replacement (renamed redex.wires), sound.shorter)
-
--- the row of a number is one of the rows
-pub IsSound-numbered : (rules : List RowView) (number : ℕ) (row : RowView) → row_numbered rules number ≡ Some row →
-    All IsSound rules → IsSound row
-IsSound-numbered rules zero row numbered sound = absurd (cc)
-IsSound-numbered rules (suc k) row numbered sound =
-    subst IsSound (get_or_from_slice_get rules k row row numbered) (sound k row (slice_get_within rules k row numbered))

@@ -1,7 +1,7 @@
 -- There is at most one first redex.
 use Rattle.std.proofs.Common.{◌≡◌, ℕ, zero, suc, ◌<◌, List, [], ◌∷◌, length, get_or, inl, inr, refl, ap, sym, subst, ◌∙◌, arith}
 use Rattle.std.specs.Prelude.{All, Option, Some, None}
-use Rattle.std.proofs.lemmas.List.{length-map, get_or-map, ext_get_or}
+use Rattle.std.proofs.lemmas.List.{ext_get_or}
 use Rattle.std.proofs.lemmas.Option.{slice_get_within, get_or_from_slice_get}
 use Rattle.pq_gate.specs.declared.gate.Gate.{Gate}
 use Rattle.pq_gate.specs.declared.gate.Gate.TheVariants.{H, X, Phase, Cx}
@@ -9,8 +9,9 @@ use Rattle.pq_gate.specs.Commuting.{Touches}
 use Rattle.pq_rules.specs.Row.{RowView, Uses, IsSound}
 use Rattle.pq_rules.specs.Renaming.{renamed}
 use Rattle.pq_rules.specs.Kinds.{row_numbered}
-use Rattle.pq_match.specs.Redex.{RedexView, IsRedex, IsMatch, IsWithin, HasNoRedex, gate_at, last_place}
+use Rattle.pq_match.specs.Redex.{RedexView, IsRedex, IsMatch, IsWithin, HasNoRedex, last_place}
 use Rattle.pq_match.specs.First.{Precedes, key, IsFirst, HasNoneWithin, FirstWithin}
+use Rattle.pq_match.proofs.RewritingWires.{places_long, chosen_at}
 use Rattle.pq_match.proofs.FirstOfOrder.{Comes, comes_cases, precedes_from_comes}
 
 -- a row that has a number is one of the rows
@@ -22,20 +23,6 @@ row_sound rules (suc k) row is sound =
 pub number_small : (rules : List RowView) (number : ℕ) (row : RowView) → row_numbered rules number ≡ Some row → number < suc (length rules)
 number_small rules zero row is = omega arith
 number_small rules (suc k) row is = omega (arith, slice_get_within rules k row is)
-
--- a redex has a place for each gate of its pattern
-pub places_long : {gates pattern : List Gate} {wires places : List ℕ} → IsMatch gates pattern wires places → length places ≡ length pattern
-places_long {gates} {pattern} {wires} {places} is =
-    sym (length-map places (gate_at gates)) ∙ ap length is.chosen ∙ length-map pattern (renamed wires)
-
--- the gate at a place is the pattern's, renamed
-pub chosen_at : {gates pattern : List Gate} {wires places : List ℕ} → IsMatch gates pattern wires places → (k : ℕ) (g : Gate) →
-    k < length pattern → get_or pattern k g ≡ g → gate_at gates (get_or places k 0) ≡ renamed wires g
-chosen_at {gates} {pattern} {wires} {places} is k g inside here =
-    sym (get_or-map (gate_at gates) places k 0 g (omega (arith, places_long is))) ∙
-    ap (λ (c : List Gate). get_or c k g) is.chosen ∙
-    get_or-map (renamed wires) pattern k g g inside ∙
-    ap (renamed wires) here
 
 -- a wire of a gate is led to one wire, where the renamed gate is one
 led_once : (e f : List ℕ) (g : Gate) (w : ℕ) → Touches g w → renamed e g ≡ renamed f g → get_or e w 0 ≡ get_or f w 0
@@ -51,7 +38,8 @@ wires_once gates row e f places sound e_long f_long left right =
     ext_get_or 0 e f (e_long ∙ sym f_long)
     (λ w inside.
     let uses : Uses row.pattern w = sound.used w (omega (arith, e_long)) in
-    led_once e f uses.1 w uses.4 (sym (chosen_at left uses.0 uses.1 uses.2 uses.3) ∙ chosen_at right uses.0 uses.1 uses.2 uses.3))
+    led_once e f uses.1 w uses.4 (subst (λ (g : Gate). renamed e g ≡ renamed f g) uses.3
+    (sym (chosen_at gates row.pattern e places left.chosen uses.0 uses.1 uses.2) ∙ chosen_at gates row.pattern f places right.chosen uses.0 uses.1 uses.2)))
 
 module _ (rules : List RowView) (gates : List Gate) (x y : RedexView) (left : IsRedex rules gates x) (right : IsRedex rules gates y) where
   pub one_row : x.row ≡ y.row → left.row ≡ right.row
@@ -70,7 +58,8 @@ module _ (rules : List RowView) (gates : List Gate) (x y : RedexView) (left : Is
             | inr last ↦ inr (
               last.0,
               precedes_from_comes x.places y.places
-                  (places_long left.matches ∙ ap (λ (r : RowView). length r.pattern) (one_row last.0) ∙ sym (places_long right.matches)) last.1,
+                  (places_long gates left.row.pattern x.wires x.places left.matches.chosen ∙ ap (λ (r : RowView). length r.pattern) (one_row last.0)
+                  ∙ sym (places_long gates right.row.pattern y.wires y.places right.matches.chosen)) last.1,
             )
           ],
         )
@@ -116,7 +105,7 @@ pub some_place : (rules : List RowView) (gates : List Gate) (redex : RedexView) 
     0 < length redex.places
 some_place rules gates redex sound is =
     let shorter : length is.row.replacement < length is.row.pattern = (row_sound rules redex.row is.row is.numbered sound).shorter in
-    omega (arith, shorter, places_long is.matches)
+    omega (arith, shorter, places_long gates is.row.pattern redex.wires redex.places is.matches.chosen)
 
 -- each redex lies within the length of the list
 pub redex_within_all : (rules : List RowView) (gates : List Gate) (redex : RedexView) → IsRedex rules gates redex → IsWithin (length gates) redex

@@ -1,14 +1,14 @@
 -- What rewriting in place leaves is the rewritten list.
 use Rattle.std.proofs.Common.{◌≡◌, ℕ, ◌+◌, ◌-◌, ◌<◌, ◌≤◌, List, ◌++◌, length, map, get_or, take, drop, sym, ap, ◌∙◌, arith, append_assoc}
 use Rattle.std.specs.List.{copy_within}
-use Rattle.std.proofs.lemmas.List.{drop-drop, length-map, take-take, take-append-le}
+use Rattle.std.proofs.lemmas.List.{drop-drop, take-take, take-append-le}
 use Rattle.pq_gate.specs.declared.gate.Gate.{Gate}
 use Rattle.pq_rules.specs.Renaming.{renamed}
 use Rattle.pq_rules.specs.Row.{RowView, IsSound, Uses}
-use Rattle.pq_match.specs.Redex.{IsMatch, gate_at, last_place}
+use Rattle.pq_match.specs.Redex.{IsMatch, last_place}
 use Rattle.pq_match.specs.Rewrite.{unchosen, rewritten}
 use Rattle.pq_match.proofs.RewritingLists.{moved_down}
-use Rattle.pq_match.proofs.RewritingWires.{all_renamed_alike}
+use Rattle.pq_match.proofs.RewritingWires.{all_renamed_same, places_long}
 
 -- lists that are alike from a place on are alike from each later place on
 alike_later : (xs ys : List Gate) (i j : ℕ) → i ≤ j → drop i xs ≡ drop i ys → drop j xs ≡ drop j ys
@@ -17,17 +17,12 @@ alike_later xs ys i j upto same =
     ap (λ n. drop n xs) e ∙ sym (drop-drop (j - i) i xs) ∙ ap (λ (zs : List Gate). drop (j - i) zs) same
     ∙ drop-drop (j - i) i ys ∙ ap (λ n. drop n ys) (sym e)
 
--- a match chooses as many gates as the pattern has
-pub match_long : (gates pattern : List Gate) (wires places : List ℕ) → IsMatch gates pattern wires places → length places ≡ length pattern
-match_long gates pattern wires places is =
-    sym (length-map places (gate_at gates)) ∙ ap length is.chosen ∙ length-map pattern (renamed wires)
-
 -- the wires that were read lead the replacement where the redex does
 replacement_alike : (row : RowView) (read wires : List ℕ) → IsSound row
     → ((w : ℕ) → Uses row.pattern w → get_or read w 0 ≡ get_or wires w 0)
     → map (renamed read) row.replacement ≡ map (renamed wires) row.replacement
 replacement_alike row read wires sound right =
-    all_renamed_alike row.wires read wires row.replacement sound.same.right (λ w inside. right w (sound.used w inside))
+    all_renamed_same row.wires read wires row.replacement sound.same.right (λ w inside. right w (sound.used w inside))
 
 -- the gates were closed up before `end`, the replacement put behind them, and the rest moved down behind it
 pub rewritten_is : (row : RowView) (old closed filled moved : List Gate) (places wires read : List ℕ) (kept end : ℕ) → IsSound row
@@ -41,7 +36,7 @@ pub rewritten_is : (row : RowView) (old closed filled moved : List Gate) (places
     → take ((kept + length row.replacement) + (length filled - end)) moved ≡ rewritten old row.replacement (record { row = 0; wires = wires; places = places })
 rewritten_is row old closed filled moved places wires read kept end sound is right last inside long closed_is rest count front behind moved_is =
     let shorter : length row.replacement < length row.pattern = sound.shorter in
-    let as_many : length places ≡ length row.pattern = match_long old row.pattern wires places is in
+    let as_many : length places ≡ length row.pattern = places_long old row.pattern wires places is.chosen in
     let filling = kept + length row.replacement in
     let ends : drop end filled ≡ drop end old = alike_later filled closed filling end (omega arith) behind ∙ rest in
     let kept_is : unchosen places 0 (take end old) ≡ unchosen places 0 (take (last_place places + 1) old) = ap (λ n. unchosen places 0 (take n old)) last in

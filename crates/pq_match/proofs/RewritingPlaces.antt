@@ -52,20 +52,20 @@ unchosen_other places gates i gate inside other =
     one_more places gates i gate inside
     ∙ ap (λ b. unchosen places 0 (take i gates) ++ cond b [] (get_or gates i gate ∷ [])) other
 
--- so many chosen places lie before this place
-pub record IsPassed (places : List ℕ) (passed place : ℕ) : Type 0 where
+-- The pointer of a place: so many chosen places lie before it.
+pub record IsPointer (places : List ℕ) (passed place : ℕ) : Type 0 where
   pub few : passed ≤ length places
   pub before : (k : ℕ) → k < passed → get_or places k 0 < place
   pub next : passed < length places → place ≤ get_or places passed 0
 
-pub passed_none : (places : List ℕ) → IsPassed places 0 (get_or places 0 0)
+pub passed_none : (places : List ℕ) → IsPointer places 0 (get_or places 0 0)
 passed_none places = record { few = omega arith; before = λ k below. absurd (omega arith); next = λ some. omega arith }
 
 chosen_here : (places : List ℕ) (passed place : ℕ) → passed < length places → get_or places passed 0 ≡ place → is_chosen places place ≡ true
 chosen_here places passed place some here =
     list_any_at (λ p. eqb p place) places passed 0 some (eq-eqb (get_or places passed 0) place here)
 
-not_at : (places : List ℕ) (passed place : ℕ) → AllPairs (λ i j. i < j) places → IsPassed places passed place
+not_at : (places : List ℕ) (passed place : ℕ) → AllPairs (λ i j. i < j) places → IsPointer places passed place
     → (passed < length places → get_or places passed 0 ≢ place) → (k : ℕ) → k < length places → get_or places k 0 ≢ place
 not_at places passed place rising is other k inside same =
     elim (cases_lt k passed) [
@@ -82,7 +82,7 @@ not_at places passed place rising is other k inside same =
           ])
     ]
 
-other_here : (places : List ℕ) (passed place : ℕ) → AllPairs (λ i j. i < j) places → IsPassed places passed place
+other_here : (places : List ℕ) (passed place : ℕ) → AllPairs (λ i j. i < j) places → IsPointer places passed place
     → (passed < length places → get_or places passed 0 ≢ place) → is_chosen places place ≡ false
 other_here places passed place rising is other =
     list_any_none (λ p. eqb p place) places
@@ -91,12 +91,12 @@ other_here places passed place rising is other =
 
 pub before_first : (places : List ℕ) → AllPairs (λ i j. i < j) places → (i : ℕ) → i < get_or places 0 0 → is_chosen places i ≡ false
 before_first places rising i below =
-    let is : IsPassed places 0 i = record { few = omega arith; before = λ k none. absurd (omega arith); next = λ some. omega arith } in
+    let is : IsPointer places 0 i = record { few = omega arith; before = λ k none. absurd (omega arith); next = λ some. omega arith } in
     other_here places 0 i rising is (λ some same. omega arith)
 
 -- The gates before a place that aren't chosen are closed up, and those from there on stand as they stood.
 pub record IsClosed (old gates : List Gate) (places : List ℕ) (kept passed place : ℕ) : Type 0 where
-  pub pointer : IsPassed places passed place
+  pub pointer : IsPointer places passed place
   pub count : kept + passed ≡ place
   pub front : take kept gates ≡ unchosen places 0 (take place old)
   pub rest : drop place gates ≡ drop place old
@@ -166,7 +166,7 @@ last_place_is (p ∷ q ∷ places) zero long = absurd (omega arith)
 last_place_is (p ∷ q ∷ places) (suc n) long = last_place_is (q ∷ places) n (omega arith)
 
 -- past the last place all are passed
-pub passed_all : (places : List ℕ) (passed : ℕ) → AllPairs (λ i j. i < j) places → IsPassed places passed (last_place places + 1)
+pub passed_all : (places : List ℕ) (passed : ℕ) → AllPairs (λ i j. i < j) places → IsPointer places passed (last_place places + 1)
     → passed ≡ length places
 passed_all places passed rising is =
     elim (cases_lt passed (length places)) [

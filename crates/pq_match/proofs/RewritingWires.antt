@@ -1,7 +1,7 @@
 -- Where the wires of a row are led to, read off the gates that match its pattern.
-use Rattle.std.proofs.Common.{◌≡◌, ℕ, ◌+◌, ◌<◌, ◌≤◌, List, [], ◌∷◌, length, map, get_or, zero, suc, sym, refl, ap, ◌∙◌, subst, inl, inr, arith}
+use Rattle.std.proofs.Common.{◌≡◌, ℕ, ◌+◌, ◌<◌, List, [], ◌∷◌, length, map, get_or, sym, refl, ap, ◌∙◌, subst, inl, inr, arith}
 use Rattle.std.proofs.lemmas.Bool.{cases_lt}
-use Rattle.std.proofs.lemmas.List.{get_or-map, get_or_default}
+use Rattle.std.proofs.lemmas.List.{length-map, get_or-map, get_or_default}
 use Rattle.pq_gate.specs.Circuit.{IsOnWires, IsCircuit}
 use Rattle.pq_gate.specs.Commuting.{Touches}
 use Rattle.pq_gate.specs.declared.gate.Gate.{Gate}
@@ -10,49 +10,38 @@ use Rattle.pq_rules.specs.Renaming.{renamed}
 use Rattle.pq_rules.specs.Row.{Uses}
 use Rattle.pq_match.specs.Redex.{gate_at}
 
-wider : (m n : ℕ) (gate : Gate) → m ≤ n → IsOnWires m gate → IsOnWires n gate
-wider m n (H wire) le is = omega arith
-wider m n (X wire) le is = omega arith
-wider m n (Phase eighths wire) le is = omega arith
-wider m n (Cx control target) le is = (omega (arith, is.0), omega (arith, is.1), is.2)
-
--- a circuit on some wires is one on more
-pub IsCircuit_wider : (m n : ℕ) (gates : List Gate) → m ≤ n → IsCircuit m gates → IsCircuit n gates
-IsCircuit_wider m n [] le is = tt
-IsCircuit_wider m n (gate ∷ gates) le is = (wider m n gate le is.0, IsCircuit_wider m n gates le is.1)
-
--- each gate of a circuit is on its wires
-pub IsCircuit_at : (n : ℕ) (gates : List Gate) (k : ℕ) (d : Gate) → IsCircuit n gates → k < length gates → IsOnWires n (get_or gates k d)
-IsCircuit_at n [] k d is inside = absurd (omega arith)
-IsCircuit_at n (gate ∷ gates) zero d is inside = is.0
-IsCircuit_at n (gate ∷ gates) (suc k) d is inside = IsCircuit_at n gates k d is.1 (omega arith)
-
-renamed_alike : (n : ℕ) (xs ys : List ℕ) (gate : Gate) → IsOnWires n gate → ((w : ℕ) → w < n → get_or xs w 0 ≡ get_or ys w 0)
+-- two renamings that agree on the wires of a gate rename it alike
+renamed_same : (n : ℕ) (xs ys : List ℕ) (gate : Gate) → IsOnWires n gate → ((w : ℕ) → w < n → get_or xs w 0 ≡ get_or ys w 0)
     → renamed xs gate ≡ renamed ys gate
-renamed_alike n xs ys (H wire) is alike = ap H (alike wire is)
-renamed_alike n xs ys (X wire) is alike = ap X (alike wire is)
-renamed_alike n xs ys (Phase eighths wire) is alike = ap (Phase eighths) (alike wire is)
-renamed_alike n xs ys (Cx control target) is alike =
+renamed_same n xs ys (H wire) is alike = ap H (alike wire is)
+renamed_same n xs ys (X wire) is alike = ap X (alike wire is)
+renamed_same n xs ys (Phase eighths wire) is alike = ap (Phase eighths) (alike wire is)
+renamed_same n xs ys (Cx control target) is alike =
     let c : get_or xs control 0 ≡ get_or ys control 0 = alike control is.0 in
     let t : get_or xs target 0 ≡ get_or ys target 0 = alike target is.1 in
     cc
 
 -- two renamings that agree on the wires of a circuit rename it alike
-pub all_renamed_alike : (n : ℕ) (xs ys : List ℕ) (gates : List Gate) → IsCircuit n gates
+pub all_renamed_same : (n : ℕ) (xs ys : List ℕ) (gates : List Gate) → IsCircuit n gates
     → ((w : ℕ) → w < n → get_or xs w 0 ≡ get_or ys w 0) → map (renamed xs) gates ≡ map (renamed ys) gates
-all_renamed_alike n xs ys [] is alike = refl
-all_renamed_alike n xs ys (gate ∷ gates) is alike =
-    let first : renamed xs gate ≡ renamed ys gate = renamed_alike n xs ys gate is.0 alike in
-    let rest : map (renamed xs) gates ≡ map (renamed ys) gates = all_renamed_alike n xs ys gates is.1 alike in
+all_renamed_same n xs ys [] is alike = refl
+all_renamed_same n xs ys (gate ∷ gates) is alike =
+    let first : renamed xs gate ≡ renamed ys gate = renamed_same n xs ys gate is.0 alike in
+    let rest : map (renamed xs) gates ≡ map (renamed ys) gates = all_renamed_same n xs ys gates is.1 alike in
     cc
 
--- the gate at a chosen place is the pattern's, renamed
-pub chosen_at : (gates : List Gate) (places : List ℕ) (pattern : List Gate) (wires : List ℕ) (k : ℕ) (d : Gate)
-    → map (gate_at gates) places ≡ map (renamed wires) pattern → k < length places → k < length pattern
-    → gate_at gates (get_or places k 0) ≡ renamed wires (get_or pattern k d)
-chosen_at gates places pattern wires k d same left right =
-    sym (get_or-map (gate_at gates) places k 0 d left) ∙ ap (λ (xs : List Gate). get_or xs k d) same
-    ∙ get_or-map (renamed wires) pattern k d d right
+-- where the chosen gates are the pattern's, renamed, there is a place for each gate of the pattern
+pub places_long : (gates pattern : List Gate) (wires places : List ℕ) → map (gate_at gates) places ≡ map (renamed wires) pattern
+    → length places ≡ length pattern
+places_long gates pattern wires places same =
+    sym (length-map places (gate_at gates)) ∙ ap length same ∙ length-map pattern (renamed wires)
+
+-- the gate at each place is the pattern's, renamed
+pub chosen_at : (gates pattern : List Gate) (wires places : List ℕ) → map (gate_at gates) places ≡ map (renamed wires) pattern
+    → (k : ℕ) (d : Gate) → k < length pattern → gate_at gates (get_or places k 0) ≡ renamed wires (get_or pattern k d)
+chosen_at gates pattern wires places same k d inside =
+    sym (get_or-map (gate_at gates) places k 0 d (omega (arith, places_long gates pattern wires places same)))
+    ∙ ap (λ (xs : List Gate). get_or xs k d) same ∙ get_or-map (renamed wires) pattern k d d inside
 
 -- the wires of the first `count` gates of the pattern are read right
 abbrev pub AreRead : List Gate → ℕ → List ℕ → List ℕ → Type 0

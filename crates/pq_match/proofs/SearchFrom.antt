@@ -1,6 +1,7 @@
 use Rattle.std.proofs.Common.{◌≡◌, ℕ, zero, suc, ◌+◌, ◌<◌, ◌≤◌, ◌⊎◌, inl, inr, List, length, get_or, true, Some, sym, ap, subst, ◌∙◌, arith}
 use Rattle.std.proofs.lemmas.Bool.{cases_order}
 use Rattle.pq_gate.specs.declared.gate.Gate.{Gate}
+use Rattle.pq_gate.specs.declared.gate.Gate.TheVariants.{H}
 use Rattle.pq_rules.specs.Kinds.{kind_of, numbers_starting, row_numbered, begins}
 use Rattle.pq_rules.specs.Row.{RowView}
 use Rattle.pq_match.specs.declared.redex.Redex.{Redex}
@@ -9,7 +10,7 @@ use Rattle.pq_match.specs.First.{Precedes, key}
 use Rattle.pq_match.specs.Found.{seen}
 use Rattle.pq_match.specs.Search.{IsFirstAmong, HasNoneAmong, IsFrom, IsOfRow}
 use Rattle.pq_match.proofs.SearchGates.{kind-renamed}
-use Rattle.pq_match.proofs.SearchMatch.{match_whole, match_at}
+use Rattle.pq_match.proofs.RewritingWires.{places_long, chosen_at}
 use Rattle.pq_match.proofs.SearchNumbers.{begins_by_kind, numbers_rise, number_stands}
 use Rattle.pq_match.proofs.SearchPlaces.{StandsAt}
 
@@ -27,13 +28,13 @@ module _ (rules : List RowView) (gates : List Gate) (start end : ℕ) where
   -- the row of a redex that begins here is among those whose first gate is of this gate's kind
   number_of : (other : RedexView) → IsRedex rules gates other → get_or other.places 0 0 ≡ start → StandsAt (numbers_starting (kind_of (gate_at gates start)) 1 rules) other.row
   number_of other is at =
-      let whole : length other.places ≡ length is.row.pattern = match_whole gates is.row.pattern other.wires other.places is.matches in
+      let whole : length other.places ≡ length is.row.pattern = places_long gates is.row.pattern other.wires other.places is.matches.chosen in
       let places_some : 0 < length other.places = is.some in
       let some : 0 < length is.row.pattern = omega arith in
       stands_by_row other other.row is.row is.numbered
       (begins_by_kind (kind_of (gate_at gates start)) is.row.pattern some
       (sym (kind-renamed other.wires (gate_at is.row.pattern 0)) ∙
-      (ap kind_of (sym (match_at gates is.row.pattern other.wires other.places is.matches 0 some)) ∙
+      (ap kind_of (sym (chosen_at gates is.row.pattern other.wires other.places is.matches.chosen 0 (H 0) some)) ∙
       ap (λ (p : ℕ). kind_of (gate_at gates p)) at)))
 
 -- a redex that begins here is of a row with one of the numbers

@@ -5,7 +5,6 @@ use Rattle.pq_gate.specs.declared.gate.Eighths.TheVariants.{T, S, Z, Sdg, Tdg}
 use Rattle.pq_gate.specs.declared.gate.Gate.{Gate}
 use Rattle.pq_gate.specs.declared.gate.Gate.TheVariants.{H, X, Phase, Cx}
 use Rattle.pq_gate.specs.Circuit.{IsOnWires, IsCircuit}
-use Rattle.pq_gate.specs.Commuting.{Touches}
 use Rattle.pq_gate.specs.Eighths.{eighths_of}
 use Rattle.pq_rules.specs.Kinds.{kind_of}
 use Rattle.pq_rules.specs.Renaming.{renamed}
@@ -38,14 +37,6 @@ pub gate_on_wires : (n : ℕ) (gates : List Gate) → IsCircuit n gates → (s :
 gate_on_wires n [] on s below = absurd (omega arith)
 gate_on_wires n (g ∷ gates) on zero below = on.0
 gate_on_wires n (g ∷ gates) on (suc s) below = gate_on_wires n gates on.1 s (omega arith)
-
--- a wire that the gate uses is one of its two
-pub wire_used : (g : Gate) (w : ℕ) → Touches g w → (b : Bool) × (wire_of b g ≡ w)
-wire_used (H wire) w touches = (false, sym touches)
-wire_used (X wire) w touches = (false, sym touches)
-wire_used (Phase eighths wire) w touches = (false, sym touches)
-wire_used (Cx control target) w (inl touches) = (false, sym touches)
-wire_used (Cx control target) w (inr touches) = (true, sym touches)
 
 eighths_same : (x y : Eighths) → eighths_of x ≡ eighths_of y → x ≡ y
 eighths_same T T same = refl

@@ -12,29 +12,20 @@ use Rattle.pq_rules.specs.Row.{Uses}
 use Rattle.pq_match.specs.Redex.{gate_at, last_place, AreWires, IsMatch, AreFree}
 use Rattle.pq_match.specs.Wires.{wire_of}
 use Rattle.pq_match.specs.Search.{AreAlike, IsFitting, IsPassed, IsFull}
+use Rattle.pq_match.proofs.RewritingWires.{places_long, chosen_at}
 use Rattle.pq_match.proofs.SearchChoice.{IsChoice, choose}
-use Rattle.pq_match.proofs.SearchGates.{kind-renamed, wire_below, gate_on_wires, wire_used, renamed_by_wires, renamed_alike}
+use Rattle.pq_match.proofs.SearchGates.{kind-renamed, wire_below, gate_on_wires, renamed_by_wires, renamed_alike}
+use Rattle.pq_match.proofs.SearchTouches.{touched}
 use Rattle.pq_match.proofs.SearchPlaces.{last_place_at, place_upto_last, place_is_chosen, passed_not_chosen, chosen_stands, not_chosen_passed}
 
--- At places where a renamed pattern stands,
-module _ (gates pattern : List Gate) (wires places : List ℕ) (matches : IsMatch gates pattern wires places) where
-  pub match_whole : length places ≡ length pattern
-  match_whole = sym (length-map places (gate_at gates)) ∙ (ap length matches.chosen ∙ length-map pattern (renamed wires))
-
-  pub match_at : (s : ℕ) → s < length pattern → gate_at gates (get_or places s 0) ≡ renamed wires (gate_at pattern s)
-  match_at s below =
-      let e : length places ≡ length pattern = match_whole in
-      sym (get_or-map (gate_at gates) places s 0 (H 0) (omega arith)) ∙
-      (ap (λ (gs : List Gate). get_or gs s (H 0)) matches.chosen ∙ get_or-map (renamed wires) pattern s (H 0) (H 0) below)
-
--- these places are full.
+-- Places where a renamed pattern stands are full.
 module _ (n : ℕ) (gates pattern : List Gate) (wires places : List ℕ) (circuit : IsCircuit n pattern) (are : AreWires n wires)
     (matches : IsMatch gates pattern wires places) (free : AreFree gates places) where
   whole : length places ≡ length pattern
-  whole = match_whole gates pattern wires places matches
+  whole = places_long gates pattern wires places matches.chosen
 
   at : (s : ℕ) → s < length pattern → gate_at gates (get_or places s 0) ≡ renamed wires (gate_at pattern s)
-  at = match_at gates pattern wires places matches
+  at s below = chosen_at gates pattern wires places matches.chosen s (H 0) below
 
   match_fitting : (s : ℕ) → s < length pattern → IsFitting gates pattern places s
   match_fitting s below = record {
@@ -88,10 +79,10 @@ module _ (n : ℕ) (gates pattern : List Gate) (end : ℕ) (places : List ℕ) (
   partner : (w : ℕ) → w < n → (v : ℕ) × GoesWith gates pattern places w v
   partner w below =
       let user = used w below in
-      let side = wire_used user.1 w user.4 in
+      let side = touched user.1 w user.4 in
       let at : gate_at pattern user.0 ≡ user.1 = get_or_default pattern user.0 (H 0) user.1 user.2 ∙ user.3 in (
         wire_of side.0 (gate_at gates (get_or places user.0 0)),
-        record { at = user.0; below = user.2; second = side.0; is = ap (wire_of side.0) at ∙ side.1; goes = refl },
+        record { at = user.0; below = user.2; second = side.0; is = ap (wire_of side.0) at ∙ sym side.1; goes = refl },
       )
 
   pub full_choice : IsChoice (GoesWith gates pattern places) n

@@ -7,7 +7,7 @@ use Rattle.pq_gate.specs.declared.gate.Gate.{Gate}
 use Rattle.pq_gate.specs.Commuting.{Touches, Commutes}
 use Rattle.pq_rules.specs.Kinds.{kind_of}
 use Rattle.pq_match.specs.Redex.{gate_at}
-use Rattle.pq_match.specs.Search.{AreAlike, IsPassed, IsNext, IsFull, Begins, HasNoFull}
+use Rattle.pq_match.specs.Search.{AreApart, AreAlike, IsPassed, IsNext, HasKindsNear, IsFull, Begins, HasNoFull}
 use Rattle.pq_match.proofs.SearchTouches.{share_alike, share_back}
 
 -- the gates behind the start and before the place that share a wire with the gate at the start are of these kinds
@@ -21,7 +21,7 @@ near_begins gates start near whole = record { whole = whole; seen = λ p w more 
 
 -- a gate that shares no wire with it,
 pub near_passes : {gates : List Gate} {start place : ℕ} {near : List Bool} → IsNear gates start place near →
-    ((w : ℕ) → Touches (gate_at gates start) w → Touches (gate_at gates place) w → ⊥) → IsNear gates start (place + 1) near
+    AreApart (gate_at gates start) (gate_at gates place) → IsNear gates start (place + 1) near
 near_passes {gates} {start} {place} {near} so_far apart = record { whole = so_far.whole; seen = λ p w more less. by p w more less (cases_order p place) }
   where
     by : (p w : ℕ) → start < p → p < place + 1 → (p ≡ place) ⊎ ((p < place) ⊎ (place < p)) → Touches (gate_at gates start) w → Touches (gate_at gates p) w →
@@ -54,8 +54,7 @@ near_grows {gates} {start} {place} {near} {kind} so_far is few = record {
 
 -- Up to the first gate that doesn't commute with the gate at the start,
 pub near_stops : {gates : List Gate} {start place end : ℕ} {near : List Bool} → IsNear gates start (place + 1) near → start < place →
-    (Commutes (gate_at gates start) (gate_at gates place) → ⊥) → (p w : ℕ) → IsNext gates (start ∷ []) 1 p → p < end →
-    Touches (gate_at gates start) w → Touches (gate_at gates p) w → get_or near (kind_of (gate_at gates p)) false ≡ true
+    ¬ Commutes (gate_at gates start) (gate_at gates place) → HasKindsNear gates start end near
 near_stops {gates} {start} {place} {end} {near} so_far behind stuck p w next inside uses_first uses = by (cases_order p place)
   where
     above : start < p
@@ -69,9 +68,7 @@ near_stops {gates} {start} {place} {end} {near} so_far behind stuck p w next ins
         let f : start ≡ place = subst (λ (k : ℕ). get_or (start ∷ []) k 0 ≡ place) e same in omega arith)) behind more))
 
 -- or up to the end, these are all kinds.
-pub near_ends : {gates : List Gate} {start place end : ℕ} {near : List Bool} → IsNear gates start place near → end ≤ place →
-    (p w : ℕ) → IsNext gates (start ∷ []) 1 p → p < end →
-    Touches (gate_at gates start) w → Touches (gate_at gates p) w → get_or near (kind_of (gate_at gates p)) false ≡ true
+pub near_ends : {gates : List Gate} {start place end : ℕ} {near : List Bool} → IsNear gates start place near → end ≤ place → HasKindsNear gates start end near
 near_ends {gates} {start} {place} {end} {near} so_far ended p w next inside uses_first uses =
     so_far.seen p w (next.above 0 (omega arith)) (omega arith) uses_first uses
 
@@ -101,11 +98,10 @@ stands_or_passed places (suc count) place = by (cases_order (get_or places count
 
 -- Where the first gate of the pattern that shares a wire with its first is of another kind, nothing begins at the start.
 module _ (gates pattern : List Gate) (start end second : ℕ) (near : List Bool) (front : List ℕ) (at_start : get_or front 0 0 ≡ start)
-    (are : (p w : ℕ) → IsNext gates (start ∷ []) 1 p → p < end →
-    Touches (gate_at gates start) w → Touches (gate_at gates p) w → get_or near (kind_of (gate_at gates p)) false ≡ true)
+    (are : HasKindsNear gates start end near)
     (behind : 0 < second) (below : second < length pattern)
-    (apart : (number w : ℕ) → 0 < number → number < second → Touches (gate_at pattern 0) w → Touches (gate_at pattern number) w → ⊥)
-    (share : ((w : ℕ) → Touches (gate_at pattern 0) w → Touches (gate_at pattern second) w → ⊥) → ⊥)
+    (apart : (number : ℕ) → 0 < number → number < second → AreApart (gate_at pattern 0) (gate_at pattern number))
+    (share : ¬ AreApart (gate_at pattern 0) (gate_at pattern second))
     (unseen : get_or near (kind_of (gate_at pattern second)) false ≡ false) where
   module _ (other : List ℕ) (full : IsFull gates pattern end other) (begins : Begins front 1 other) where
     at_first : get_or other 0 0 ≡ start
@@ -117,10 +113,10 @@ module _ (gates pattern : List Gate) (start end second : ℕ) (near : List Bool)
         ((full.fitting s s_below).wires 0 (omega arith))
 
     -- the chosen gates before it share no wire with the gate at the start
-    chosen_apart : (s w : ℕ) → 0 < s → s < second → Touches (gate_at gates start) w → Touches (gate_at gates (get_or other s 0)) w → ⊥
-    chosen_apart s w more less uses_first uses =
+    chosen_apart : (s : ℕ) → 0 < s → s < second → AreApart (gate_at gates start) (gate_at gates (get_or other s 0))
+    chosen_apart s more less w uses_first uses =
         let back = share_back (gate_at pattern 0) (gate_at pattern s) (gate_at gates start) (gate_at gates (get_or other s 0)) (alike s (omega arith)) w uses_first uses in
-        apart s back.0 more less back.1 back.2
+        apart s more less back.0 back.1 back.2
 
     commuting : (q : ℕ) → start < q → q < get_or other second 0 →
         (((s : ℕ) × (s < length pattern) × (get_or other s 0 ≡ q)) ⊎ IsPassed other (length pattern) q) → Commutes (gate_at gates start) (gate_at gates q)
@@ -143,7 +139,7 @@ module _ (gates pattern : List Gate) (start end second : ℕ) (near : List Bool)
             let f : get_or other stands.0 0 ≡ get_or other second 0 = ap (λ (k : ℕ). get_or other k 0) same in
             let g : get_or other stands.0 0 ≡ q = stands.2 in omega arith
         between w uses_first uses (inr (inr positive)) (inr (inl lower)) =
-            chosen_apart stands.0 w positive lower uses_first (subst (λ (p : ℕ). Touches (gate_at gates p) w) (sym stands.2) uses)
+            chosen_apart stands.0 positive lower w uses_first (subst (λ (p : ℕ). Touches (gate_at gates p) w) (sym stands.2) uses)
         between w uses_first uses (inr (inr positive)) (inr (inr higher)) =
             let rise : get_or other second 0 < get_or other stands.0 0 = full.rising second stands.0 higher stands.1 in
             let g : get_or other stands.0 0 ≡ q = stands.2 in omega arith

@@ -9,8 +9,9 @@ use Rattle.pq_match.specs.Redex.{RedexView, IsRedex, IsMatch, AreWires, last_pla
 use Rattle.pq_match.specs.First.{Precedes, key}
 use Rattle.pq_match.specs.Search.{IsFull, Begins, IsFirstFull, HasNoFull, HasNoneAmong, IsFirstAmong, IsOfRow}
 use Rattle.pq_match.proofs.Growing.{grown_same}
+use Rattle.pq_match.proofs.RewritingWires.{places_long}
 use Rattle.pq_match.proofs.SearchChoice.{IsChoice}
-use Rattle.pq_match.proofs.SearchMatch.{GoesWith, match_whole, match_full, full_choice, full_apart, full_matches, full_free}
+use Rattle.pq_match.proofs.SearchMatch.{GoesWith, match_full, full_choice, full_apart, full_matches, full_free}
 use Rattle.pq_match.proofs.SearchPlaces.{last_place_at, before_at, before_in_front}
 
 -- The redexes of one row that begin at a place are the full places of its pattern.
@@ -26,7 +27,7 @@ module _ (rules : List RowView) (gates : List Gate) (number start end : ℕ) (ro
 
   other_whole : (other : RedexView) → IsRedex rules gates other → other.row ≡ number → length other.places ≡ length row.pattern
   other_whole other is same =
-      match_whole gates row.pattern other.wires other.places (other_matches other is same)
+      places_long gates row.pattern other.wires other.places (other_matches other is same).chosen
 
   other_full : (other : RedexView) → IsRedex rules gates other → IsOfRow number start end other → IsFull gates row.pattern end other.places
   other_full other is of =

@@ -4,7 +4,7 @@ use Rattle.pq_gate.specs.declared.gate.Gate.{Gate}
 use Rattle.pq_gate.specs.declared.gate.Gate.TheVariants.{H, X, Phase, Cx}
 use Rattle.pq_gate.specs.Commuting.{Touches, Commutes}
 use Rattle.pq_match.specs.Wires.{wire_of}
-use Rattle.pq_match.specs.Search.{AreAlike}
+use Rattle.pq_match.specs.Search.{AreApart, AreAlike}
 
 -- which of the gate's wires this one is
 pub touched : (gate : Gate) (w : ℕ) → Touches gate w → (one : Bool) × (w ≡ wire_of one gate)
@@ -22,12 +22,12 @@ touching (Cx control target) false = inl refl
 touching (Cx control target) true = inr refl
 
 -- gates that share no wire commute
-pub commute_apart : (first second : Gate) → ((w : ℕ) → Touches first w → Touches second w → ⊥) → Commutes first second
+pub commute_apart : (first second : Gate) → AreApart first second → Commutes first second
 commute_apart first second apart w uses_first uses_second = absurd (apart w uses_first uses_second)
 
 -- Where another gate touches neither wire of the first, they share none.
 pub apart_by_both : (first second : Gate) {wire other : ℕ} → wire ≡ wire_of false first → other ≡ wire_of true first →
-    (Touches second wire → ⊥) → (Touches second other → ⊥) → (w : ℕ) → Touches first w → Touches second w → ⊥
+    ¬ Touches second wire → ¬ Touches second other → AreApart first second
 apart_by_both first second wire_is other_is near far w uses_first uses_second = by (touched first w uses_first)
   where
     by : (one : Bool) × (w ≡ wire_of one first) → ⊥

@@ -1,5 +1,5 @@
 -- There is a first redex, or none.
-use Rattle.std.proofs.Common.{◌≡◌, ℕ, zero, suc, ◌+◌, ◌<◌, ◌≤◌, List, [], ◌∷◌, length, get_or, ◌⊎◌, inl, inr, refl, ap, sym, subst, arith}
+use Rattle.std.proofs.Common.{◌≡◌, ℕ, zero, suc, ◌+◌, ◌<◌, ◌≤◌, List, [], ◌∷◌, length, get_or, ◌⊎◌, inl, inr, refl, ap, sym, subst, ◌∙◌, arith}
 use Rattle.std.specs.Prelude.{All, Option, Some, None}
 use Rattle.std.proofs.lemmas.Bool.{cases_eq}
 use Rattle.std.proofs.lemmas.List.Elements.{All-from_get_or}
@@ -12,7 +12,8 @@ use Rattle.pq_match.specs.Redex.{RedexView, IsRedex, IsWithin, gate_at}
 use Rattle.pq_match.specs.First.{key, FirstWithin}
 use Rattle.pq_match.proofs.FirstOfSettled.{Settled, redex_within, above_wires, touched_below}
 use Rattle.pq_match.proofs.FirstOfOrder.{Comes, comes_cases, comes_through, comes_never_before_itself, comes_from_precedes}
-use Rattle.pq_match.proofs.OneFirst.{row_sound, number_small, places_long, chosen_at}
+use Rattle.pq_match.proofs.RewritingWires.{places_long, chosen_at}
+use Rattle.pq_match.proofs.OneFirst.{row_sound, number_small}
 
 -- one that is good, and before which no good one of those looked at comes
 record IsLeast (Good Looked : RedexView → Type 0) (x : RedexView) : Type 0 where
@@ -157,10 +158,11 @@ module _ (rules : List RowView) (gates : List Gate) (sound : All IsSound rules) 
       All-from_get_or (λ w. w < above_all gates) x.wires 0
       (λ w inside.
       let uses : Uses is.row.pattern w = (row_sound rules x.row is.row is.numbered sound).used w (omega (arith, is.wires.whole)) in
-      let here : gate_at gates (get_or x.places uses.0 0) ≡ renamed x.wires uses.1 = chosen_at is.matches uses.0 uses.1 uses.2 uses.3 in
+      let here : gate_at gates (get_or x.places uses.0 0) ≡ renamed x.wires uses.1 =
+      chosen_at gates is.row.pattern x.wires x.places is.matches.chosen uses.0 uses.1 uses.2 ∙ ap (renamed x.wires) uses.3 in
       let touched : get_or x.wires w 0 < above_wires (renamed x.wires uses.1) =
       touched_below (renamed x.wires uses.1) (get_or x.wires w 0) (touches_renamed x.wires uses.1 w uses.4) in
-      let place : get_or x.places uses.0 0 < length gates = is.matches.inside uses.0 0 (omega (arith, uses.2, places_long is.matches)) in
+      let place : get_or x.places uses.0 0 < length gates = is.matches.inside uses.0 0 (omega (arith, uses.2, places_long gates is.row.pattern x.wires x.places is.matches.chosen)) in
       omega (arith, touched, above_each gates (get_or x.places uses.0 0) place, ap above_wires here))
 
   module _ (span : ℕ) where
@@ -192,7 +194,7 @@ module _ (rules : List RowView) (gates : List Gate) (sound : All IsSound rules) 
             low = wires_low x is;
             here = record {
               word = x.places;
-              short = omega (arith, row.short, places_long is.matches);
+              short = omega (arith, row.short, places_long gates is.row.pattern x.wires x.places is.matches.chosen);
               low = is.matches.inside;
               here = refl;
             };

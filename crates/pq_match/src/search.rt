@@ -1,9 +1,9 @@
-ghost use Rattle.std.specs.Prelude.{◌≡◌, ℕ, ◌+◌, ◌%◌, ◌<◌, ◌≤◌, ◌↔◌, IsTrue, true, false, [], ◌∷◌, length, slice_index, slice_index_or, slice_set};
+ghost use Rattle.std.specs.Prelude.{◌≡◌, ℕ, ◌+◌, ◌%◌, ◌<◌, ◌≤◌, ◌↔◌, IsTrue, true, false, length, slice_index, slice_index_or, slice_set};
 ghost use Rattle.pq_gate.specs.Commuting.{Touches, Commutes};
 ghost use Rattle.pq_rules.specs.Kinds.{kind_of};
 ghost use Rattle.pq_match.specs.Redex.{gate_at};
 ghost use Rattle.pq_match.specs.Found.{FindsWithin};
-ghost use Rattle.pq_match.specs.Search.{IsAlike, AreAlike, IsFitting, IsNext, IsPassable, IsGrown, FindsFull, AreEight, FindsAmong, IsFrom, IsOfRow};
+ghost use Rattle.pq_match.specs.Search.{AreApart, IsAlike, AreAlike, IsFitting, IsNext, HasKindsNear, IsPassable, IsGrown, FindsFull, AreEight, FindsAmong, IsFrom, IsOfRow};
 
 use crate::redex::Redex;
 use crate::segment::Seg;
@@ -65,9 +65,7 @@ fn kinds_near(gates: &[Gate], start: u32, end: u32) -> [bool; 10]
     requires few { length gates.now ≤ 1048576 }
     requires start { start < end }
     requires end { end ≤ length gates.now }
-    ensures { (place w : ℕ) → IsNext gates.now (start ∷ []) 1 place → place < end
-        → Touches (gate_at gates.now start) w → Touches (gate_at gates.now place) w
-        → slice_index_or result (kind_of (gate_at gates.now place)) false ≡ true }
+    ensures { HasKindsNear gates.now start end result }
 {
     let gate = gates[start as usize];
     let mut near = [false; 10];
@@ -96,9 +94,7 @@ fn find_row(
     requires few { length gates.now ≤ 1048576 }
     requires start { start < end }
     requires end { end ≤ length gates.now }
-    requires near { (place w : ℕ) → IsNext gates.now (start ∷ []) 1 place → place < end
-        → Touches (gate_at gates.now start) w → Touches (gate_at gates.now place) w
-        → slice_index_or near.now (kind_of (gate_at gates.now place)) false ≡ true }
+    requires near { HasKindsNear gates.now start end near.now }
     ensures { FindsAmong (IsOfRow number start end) rules.now gates.now result }
 {
     let Some(row) = rules.row(number) else {
@@ -123,10 +119,8 @@ fn find_row(
 fn nearest_of(pattern: &[Gate]) -> usize
     requires { 0 < length pattern.now }
     ensures some { 0 < result }
-    ensures apart { (number w : ℕ) → 0 < number → number < result
-        → Touches (gate_at pattern.now 0) w → Touches (gate_at pattern.now number) w → ⊥ }
-    ensures near { result < length pattern.now
-        → ((w : ℕ) → Touches (gate_at pattern.now 0) w → Touches (gate_at pattern.now result) w → ⊥) → ⊥ }
+    ensures apart { (number : ℕ) → 0 < number → number < result → AreApart (gate_at pattern.now 0) (gate_at pattern.now number) }
+    ensures near { result < length pattern.now → ¬ AreApart (gate_at pattern.now 0) (gate_at pattern.now result) }
 {
     let first = pattern[0];
     for number in 1..pattern.len() {
@@ -263,7 +257,7 @@ fn use_wires(used: &mut [bool; 64], gate: Gate)
 // whether the gate shares no wire with those before it
 fn stands_apart(pattern: &[Gate], number: usize) -> bool
     requires { number < length pattern.now }
-    ensures { IsTrue result ↔ ((before w : ℕ) → before < number → Touches (gate_at pattern.now before) w → Touches (gate_at pattern.now number) w → ⊥) }
+    ensures { IsTrue result ↔ ((before : ℕ) → before < number → AreApart (gate_at pattern.now before) (gate_at pattern.now number)) }
 {
     for before in 0..number {
         if !are_apart(pattern[before], pattern[number]) {
@@ -346,7 +340,7 @@ fn are_commuting(first: Gate, second: Gate) -> bool
 // whether the gates share no wire
 #[tactic(auto, using(crate::proofs::SearchTouches::apart_by_both))]
 fn are_apart(first: Gate, second: Gate) -> bool
-    ensures { IsTrue result ↔ ((w : ℕ) → Touches first w → Touches second w → ⊥) }
+    ensures { IsTrue result ↔ AreApart first second }
 {
     let (wire, other) = wires_of(first);
     !touches(second, wire) && (other == wire || !touches(second, other))

@@ -7,7 +7,8 @@ use Rattle.pq_gate.proofs.SameLaws.{same_reflexive, same_transitive}
 use Rattle.pq_rules.specs.Row.{RowView, IsSound}
 use Rattle.pq_match.specs.Redex.{RedexView, IsRedex, HasNoRedex}
 use Rattle.pq_match.specs.Rewrite.{rewritten}
-use Rattle.pq_match.proofs.Moving.{rewriting_keeps, rewriting_shortens, IsSound-numbered}
+use Rattle.pq_match.proofs.Moving.{rewriting_keeps, rewriting_shortens}
+use Rattle.pq_match.proofs.OneFirst.{row_sound}
 use Rattle.pq_oracle.specs.Ora.{Answer, Ora, ends, goes}
 
 -- no redex is left
@@ -34,7 +35,7 @@ phase rules _ _ (goes gates redex first answer rest) = omega arith
 
 -- the row of a redex is sound
 pub sound_row : (rules : List RowView) (gates : List Gate) (redex : RedexView) (is : IsRedex rules gates redex) → All IsSound rules → IsSound is.row
-sound_row rules gates redex is sound = IsSound-numbered rules redex.row is.row is.numbered sound
+sound_row rules gates redex is sound = row_sound rules redex.row is.row is.numbered sound
 
 -- each step shortens
 pub shorter : (rules : List RowView) (gates : List Gate) (answer : Answer) → All IsSound rules → Ora rules gates answer →
