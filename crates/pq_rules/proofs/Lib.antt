@@ -7,3 +7,4 @@ mod PairLaws
 mod SearchLaws
 mod StateLaws
 mod TableLaws
+pub mod BuiltinRows

@@ -2,7 +2,7 @@
 //! caller's proof has the fact after the call.
 #![tactic(auto)]
 
-ghost use Rattle.std.specs.Prelude.{◌≡◌, ℕ, List, map};
+ghost use Rattle.std.specs.Prelude.{◌≡◌, ℕ, List, All, map};
 ghost use Rattle.pq_gate.specs.declared.gate.Gate.{Gate};
 ghost use Rattle.pq_gate.specs.Matrix.{Same};
 ghost use Rattle.pq_rules.specs.declared.row.RawRow.{RawRow};
@@ -10,6 +10,7 @@ ghost use Rattle.pq_rules.specs.declared.row.RowFault.{RowFault};
 ghost use Rattle.pq_rules.specs.Fault.{Comes};
 ghost use Rattle.pq_rules.specs.Renaming.{IsRenaming, renamed};
 ghost use Rattle.pq_rules.specs.Row.{RowView, IsSound};
+ghost use Rattle.pq_rules.specs.Table.{builtin_rows};
 
 /// Circuits that have one matrix up to a phase on their wires have it on every wider register,
 /// whatever different wires theirs are renamed to. So a row that is sound on its wires is sound
@@ -24,4 +25,9 @@ pub fn same_on_every_register()
 /// At most one fault of a raw row comes.
 pub fn one_fault()
     ensures { (raw : RawRow) (one other : RowFault) → Comes raw one → Comes raw other → one ≡ other }
+{}
+
+/// The built-in rows are sound.
+pub fn builtin_rows_are_sound()
+    ensures { All IsSound builtin_rows }
 {}
