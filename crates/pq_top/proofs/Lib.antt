@@ -5,3 +5,4 @@ mod Noting
 mod Optimising
 mod Statuses
 mod Working
+mod OneOutput

@@ -13,12 +13,14 @@ ghost use Rattle.pq_top.specs.Work.{status_of};
 
 mod answer;
 mod check;
+mod laws;
 mod notes;
 mod optimise;
 #[cfg(test)]
 mod tests;
 
 use crate::answer::{Answer, work};
+pub use crate::laws::commands_have_one_output;
 use crate::notes::note;
 use pq_command::UsageFault;
 use pq_io::{Sink, Source};
