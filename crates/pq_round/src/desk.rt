@@ -1,4 +1,5 @@
 ghost use Rattle.std.specs.Prelude.{◌≡◌, ◌≤◌, length, IfOk};
+ghost use Rattle.pq_limits.specs.declared.TheConstants.{MAX_SEGMENT};
 ghost use Rattle.pq_round.specs.Results.{IsResultOf};
 ghost use Rattle.pq_round.specs.Desks.{IsFreeFor};
 
@@ -7,7 +8,8 @@ use pq_gate::GateList;
 use pq_match::Seg;
 use pq_oracle::Worked;
 use pq_rules::Rules;
-use std::alloc::{AllocError, Global};
+use pq_list::OutOfMemory;
+use std::alloc::Global;
 
 /// The room in which one job is worked.
 #[derive(Drop)]
@@ -21,8 +23,8 @@ pub struct Desk {
 
 impl Desk {
     /// A desk with room for so many gates, at most 2,048.
-    pub fn reserve(alloc: Global, room: u32) -> Result<Desk, AllocError>
-        requires { room ≤ 2048 }
+    pub fn reserve(alloc: Global, room: u32) -> Result<Desk, OutOfMemory>
+        requires { room ≤ MAX_SEGMENT }
         ensures { IfOk result (IsFreeFor room) }
     {
         let input = GateList::with_room(alloc, room)?;

@@ -1,4 +1,5 @@
 ghost use Rattle.std.specs.Prelude.{◌≡◌, ◌*◌, ◌≤◌, length, IfOk, All};
+ghost use Rattle.pq_limits.specs.Limits.{IsOmega, AreWorkers};
 ghost use Rattle.pq_array.specs.Cells.{IsLive};
 ghost use Rattle.pq_round.specs.Results.{AreResults};
 
@@ -9,7 +10,8 @@ use pq_array::GateArray;
 use pq_board::Jobs;
 use pq_oracle::WorkedList;
 use pq_rules::Rules;
-use std::alloc::{AllocError, Global};
+use pq_list::OutOfMemory;
+use std::alloc::Global;
 use std::thread::Threads;
 
 /// Gives the gates of each job to the oracle, by so many workers, 1 to 64. The list has one worked segment for each
@@ -19,6 +21,7 @@ use std::thread::Threads;
 /// Of m workers, worker i works the tickets i, i + m, i + 2m and so on. It calls the gate before it works a ticket, when
 /// the room of all of its tickets is taken, and after the ticket's result is made. No worker is started that would have
 /// no ticket, so one job is worked in the caller's thread.
+#[tactic(auto, using(crate::proofs::Crewing::results_in_order))]
 pub fn run_round<'r, R: Threads + Sync, G: WorkGate>(
     rt: &R,
     alloc: Global,
@@ -28,11 +31,9 @@ pub fn run_round<'r, R: Threads + Sync, G: WorkGate>(
     omega: u32,
     workers: u32,
     gate: &G,
-) -> Result<WorkedList<'r>, AllocError>
-    requires least { 2 ≤ omega }
-    requires most { omega ≤ 1024 }
-    requires some { 1 ≤ workers }
-    requires few { workers ≤ 64 }
+) -> Result<WorkedList<'r>, OutOfMemory>
+    requires omega { IsOmega omega }
+    requires workers { AreWorkers workers }
     requires live { All (λ places. All (IsLive array.now) places) jobs.now }
     requires short { All (λ places. length places ≤ 2 * omega) jobs.now }
     ensures { IfOk result (λ list. AreResults array.now jobs.now rules.entry.now list.items) }

@@ -49,7 +49,8 @@ impl Share {
 
     /// Of how many workers these are the tickets.
     pub fn workers(&self) -> u64
-        ensures { result ≡ self.now.workers }
+        ensures workers { result ≡ self.now.workers }
+        ensures some { 0 < result }
     {
         self.workers
     }
