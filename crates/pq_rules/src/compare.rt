@@ -2,10 +2,9 @@ ghost use Rattle.std.specs.Prelude.{◌≡◌, ◌↔◌, ℕ, ◌+◌, ◌*◌,
 ghost use Rattle.pq_gate.specs.Circuit.{IsOnWires, IsCircuit};
 ghost use Rattle.pq_gate.specs.Commuting.{Touches};
 ghost use Rattle.pq_gate.specs.Matrix.{Same, h_count, roots_of};
-ghost use Rattle.pq_rules.specs.Fault.{HasItsWires};
 ghost use Rattle.pq_rules.specs.Pairs.{IsMatrixWithin, MatchesAt, MatchesBelow, entry_in};
 ghost use Rattle.pq_gate.specs.Ring.{turned};
-ghost use Rattle.pq_rules.specs.Row.{Uses};
+ghost use Rattle.pq_rules.specs.Row.{Uses, HasItsWires};
 ghost use Rattle.pq_rules.specs.Agreement.{IsFirstDiffering};
 
 use crate::column::{matrix_of, states, turned_by};

@@ -4,6 +4,8 @@
 mod check;
 mod column;
 mod compare;
+#[cfg(test)]
+mod crossing;
 pub mod laws;
 #[cfg(test)]
 mod near_misses;
