@@ -1,4 +1,5 @@
 use Rattle.std.specs.Prelude.{ℕ, ◌<◌, ◌≤◌, length}
+use Rattle.pq_limits.specs.declared.TheConstants.{MAX_ROW_GATES}
 use Rattle.pq_rules.specs.declared.row.RawRow.{RawRow}
 use Rattle.pq_rules.specs.declared.row.RowFault.{RowFault}
 use Rattle.pq_rules.specs.declared.row.RowFault.TheVariants.{Wires, TooLong, NotShorter, Differs}
@@ -20,9 +21,9 @@ IsShortening raw = Shortens raw.pattern.items raw.replacement.items
 -- When each fault comes. They are tried in this order.
 abbrev pub Comes : RawRow → RowFault → Type 0
 Comes raw Wires = IsOnItsWires raw → ⊥
-Comes raw TooLong = IsOnItsWires raw × (8 < length raw.pattern.items)
+Comes raw TooLong = IsOnItsWires raw × (MAX_ROW_GATES < length raw.pattern.items)
 Comes raw NotShorter =
-    IsOnItsWires raw × (length raw.pattern.items ≤ 8) × (length raw.pattern.items ≤ length raw.replacement.items)
+    IsOnItsWires raw × (length raw.pattern.items ≤ MAX_ROW_GATES) × (length raw.pattern.items ≤ length raw.replacement.items)
 Comes raw (Differs from to) = IsOnItsWires raw × IsShortening raw × IsFirstDiffering (with_phase raw 0) from to
 
 -- no fault of the raw row comes

@@ -1,5 +1,6 @@
 use Rattle.std.specs.Prelude.{ℕ, ◌<◌, ◌≤◌, List, length}
 use Rattle.std.specs.List.{Any}
+use Rattle.pq_limits.specs.declared.TheConstants.{MIN_ROW_WIRES, MAX_ROW_WIRES, MAX_ROW_GATES}
 use Rattle.pq_gate.specs.declared.gate.Gate.{Gate}
 use Rattle.pq_gate.specs.Circuit.{IsCircuit}
 use Rattle.pq_gate.specs.Commuting.{Touches}
@@ -19,15 +20,15 @@ Uses gates w = Any (λ gate. Touches gate w) gates
 
 -- there are 1 to 3 wires, both sides are circuits on them, and the pattern uses all of them
 pub record HasItsWires (wires : ℕ) (pattern replacement : List Gate) : Type 0 where
-  pub some : 1 ≤ wires
-  pub few : wires ≤ 3
+  pub some : MIN_ROW_WIRES ≤ wires
+  pub few : wires ≤ MAX_ROW_WIRES
   pub left : IsCircuit wires pattern
   pub right : IsCircuit wires replacement
   pub used : (w : ℕ) → w < wires → Uses pattern w
 
 -- the pattern has at most 8 gates, and the replacement fewer
 pub record Shortens (pattern replacement : List Gate) : Type 0 where
-  pub short : length pattern ≤ 8
+  pub short : length pattern ≤ MAX_ROW_GATES
   pub shorter : length replacement < length pattern
 
 -- The row has its wires, and shortens; the pattern's matrix is ω^phase times the replacement's.

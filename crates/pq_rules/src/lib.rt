@@ -4,8 +4,6 @@
 mod check;
 mod column;
 mod compare;
-#[cfg(test)]
-mod crossing;
 pub mod laws;
 #[cfg(test)]
 mod near_misses;
@@ -15,4 +13,4 @@ mod table;
 
 pub use check::check_row;
 pub use row::{RawRow, Row, RowFault};
-pub use rules::Rules;
+pub use rules::{BUILTIN_ROWS, MAX_ROWS, Rules};
