@@ -108,7 +108,7 @@ fn find_row(
     if second < pattern.len() && !near[kind(pattern[second])] {
         return None;
     }
-    let Some(places) = extend_at(gates, pattern, end, &[0; 8], 0, start) else {
+    let Some(places) = extend_at(gates, pattern, end, &[0; MAX_ROW_GATES], 0, start) else {
         return None;
     };
     Some(Redex {
@@ -141,10 +141,10 @@ fn extend_at(
     gates: &[Gate],
     pattern: &[Gate],
     end: u32,
-    places: &[u32; 8],
+    places: &[u32; MAX_ROW_GATES],
     count: usize,
     place: u32,
-) -> Option<[u32; 8]>
+) -> Option<[u32; MAX_ROW_GATES]>
     requires few { length gates.now ≤ MAX_GATES }
     requires short { length pattern.now ≤ MAX_ROW_GATES }
     requires end { end ≤ length gates.now }
@@ -173,10 +173,10 @@ fn extend_by_kind(
     gates: &[Gate],
     pattern: &[Gate],
     end: u32,
-    places: &[u32; 8],
+    places: &[u32; MAX_ROW_GATES],
     count: usize,
     place: u32,
-) -> Option<[u32; 8]>
+) -> Option<[u32; MAX_ROW_GATES]>
     requires few { length gates.now ≤ MAX_GATES }
     requires short { length pattern.now ≤ MAX_ROW_GATES }
     requires end { end ≤ length gates.now }
@@ -200,9 +200,9 @@ fn extend(
     gates: &[Gate],
     pattern: &[Gate],
     end: u32,
-    places: &[u32; 8],
+    places: &[u32; MAX_ROW_GATES],
     count: usize,
-) -> Option<[u32; 8]>
+) -> Option<[u32; MAX_ROW_GATES]>
     requires few { length gates.now ≤ MAX_GATES }
     requires short { length pattern.now ≤ MAX_ROW_GATES }
     requires end { end ≤ length gates.now }
@@ -235,7 +235,7 @@ fn extend(
 }
 
 // The wires of the chosen gates, each by its remainder by 64, which other wires may have too.
-fn wires_used(gates: &[Gate], places: &[u32; 8], count: usize) -> [bool; 64]
+fn wires_used(gates: &[Gate], places: &[u32; MAX_ROW_GATES], count: usize) -> [bool; 64]
     requires few { count ≤ MAX_ROW_GATES }
     requires inside { (s : ℕ) → s < count → slice_index places.now s < length gates.now }
     ensures { (s w : ℕ) → s < count → Touches (gate_at gates.now (slice_index places.now s)) w → slice_index_or result (w % 64) false ≡ true }
@@ -299,7 +299,7 @@ fn may_use(gate: Gate, used: &[bool; 64]) -> bool
 }
 
 // whether the gate at the last of the places fits to the pattern, and to the gates before it
-fn fits(gates: &[Gate], pattern: &[Gate], places: &[u32; 8], last: usize) -> bool
+fn fits(gates: &[Gate], pattern: &[Gate], places: &[u32; MAX_ROW_GATES], last: usize) -> bool
     requires next { last < length pattern.now }
     requires short { length pattern.now ≤ MAX_ROW_GATES }
     requires inside { (s : ℕ) → s ≤ last → slice_index places.now s < length gates.now }
@@ -318,7 +318,7 @@ fn fits(gates: &[Gate], pattern: &[Gate], places: &[u32; 8], last: usize) -> boo
 }
 
 // whether the gate at the place commutes with all the chosen gates
-fn is_passable(gates: &[Gate], places: &[u32; 8], count: usize, place: u32) -> bool
+fn is_passable(gates: &[Gate], places: &[u32; MAX_ROW_GATES], count: usize, place: u32) -> bool
     requires few { count ≤ MAX_ROW_GATES }
     requires place { place < length gates.now }
     requires inside { (s : ℕ) → s < count → slice_index places.now s < length gates.now }
