@@ -1,4 +1,4 @@
-ghost use Rattle.std.specs.Prelude.{◌≡◌, ◌<◌, ◌≤◌, [], ◌∷◌, ◌++◌, length, OnOk, OnErr, slice_index, slice_index_or};
+ghost use Rattle.std.specs.Prelude.{◌≡◌, ◌<◌, ◌≤◌, [], ◌∷◌, ◌++◌, length, All, OnOk, OnErr, slice_index, slice_index_or};
 ghost use Rattle.std.specs.List.{concat};
 ghost use Rattle.std.specs.List.Sorted.{IsStrictlyIncreasing};
 ghost use Rattle.pq_board.specs.Jobs.{lists_from};
@@ -45,7 +45,8 @@ impl Jobs {
     /// Adds a job behind the others. Where memory is refused, the jobs are as they were.
     #[tactic(auto, using(crate::proofs::Listing::ends_more, crate::proofs::Listing::lists_more, crate::proofs::Listing::joined, crate::proofs::Listing::length_lists))]
     pub fn add(&mut self, places: &[u64]) -> Result<(), AllocError>
-        requires rising { IsStrictlyIncreasing (concat self.old ++ places.now) }
+        requires rising { IsStrictlyIncreasing places.now }
+        requires behind { All (λ earlier. All (λ place. earlier < place) places.now) (concat self.old) }
         requires few { length self.old < MAX_JOBS }
         ensures added { OnOk result (self.new ≡ self.old ++ places.now ∷ []) }
         ensures unchanged { OnErr result (self.new ≡ self.old) }
@@ -57,10 +58,11 @@ impl Jobs {
     }
 
     /// How many jobs there are.
-    #[tactic(auto, using(crate::proofs::Listing::length_lists))]
+    #[tactic(auto, using(crate::proofs::Listing::length_lists, crate::proofs::Listing::joined_rise))]
     pub fn count(&self) -> u64
         ensures count { result ≡ length self.now }
         ensures few { result ≤ MAX_JOBS }
+        ensures rising { IsStrictlyIncreasing (concat self.now) }
     {
         self.ends.len() as u64
     }
