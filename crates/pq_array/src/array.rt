@@ -3,10 +3,12 @@ ghost use Rattle.pq_array.specs.Cells.{live, rank, spliced, IsLive, IsLiveRun, R
 ghost use Rattle.pq_array.specs.Tree.{IsTreeOf};
 
 use crate::WordList;
-use crate::cells::{Cells, crosses_threads};
+use crate::cells::Cells;
 use crate::tree::{lower, tree_over};
 use pq_gate::Gate;
-use std::alloc::{AllocError, Global};
+use pq_limits::MAX_GATES;
+use pq_list::{OutOfMemory, crosses_threads};
+use std::alloc::Global;
 use std::marker::Model;
 
 /// Cells that each hold a gate, or are a tombstone where a gate was taken out. Contracts see the list
@@ -32,8 +34,8 @@ impl Model for GateArray {
 
 impl GateArray {
     /// The array with one live cell for each of at most 1,048,576 gates.
-    pub fn open(alloc: Global, gates: &[Gate]) -> Result<GateArray, AllocError>
-        requires { length gates.now ≤ 1048576 }
+    pub fn open(alloc: Global, gates: &[Gate]) -> Result<GateArray, OutOfMemory>
+        requires { length gates.now ≤ MAX_GATES }
         ensures cells { IfOk result (λ array. array ≡ map (λ gate. Some gate) gates.now) }
         ensures live { IfOk result (λ array. live array ≡ gates.now) }
     {
@@ -173,7 +175,7 @@ impl GateArray {
 }
 
 /// One live cell for each gate.
-fn live_cells(alloc: Global, gates: &[Gate]) -> Result<Vec<Option<Gate>>, AllocError>
+fn live_cells(alloc: Global, gates: &[Gate]) -> Result<Vec<Option<Gate>>, OutOfMemory>
     ensures { IfOk result (λ cells. cells.items ≡ map (λ gate. Some gate) gates.now) }
 {
     gates.iter().map(|gate| Some(*gate)).collect(alloc)

@@ -3,6 +3,7 @@ ghost use Rattle.std.specs.List.Sorted.{IsStrictlyIncreasing};
 ghost use Rattle.pq_array.specs.Cells.{live, rank, spliced, IsLiveRun, Replaces};
 
 use pq_gate::Gate;
+use pq_list::crosses_threads;
 use std::marker::Model;
 
 /// The cells of an array alone, without the tree of counts. Contracts see the list of cells. No call
@@ -71,9 +72,6 @@ fn put(cells: &mut [Option<Gate>], places: &[u64], output: &[Gate])
         cells[*place as usize] = output.get(number).copied();
     }
 }
-
-/// What may be handed to another thread, and be shared by several.
-pub(crate) fn crosses_threads<T: Send + Sync>() {}
 
 /// Cells cross threads.
 fn cells_cross_threads() {

@@ -5,11 +5,13 @@ ghost use Rattle.pq_array.specs.Tree.{IsTreeOf};
 ghost use Rattle.std.specs.Int.{IsNextPowerOfTwo};
 
 use pq_gate::Gate;
-use std::alloc::{AllocError, Global};
+use pq_limits::MAX_GATES;
+use pq_list::OutOfMemory;
+use std::alloc::Global;
 
 /// The words of the tree over these cells.
-pub fn tree_over(alloc: Global, cells: &[Option<Gate>]) -> Result<Vec<u64>, AllocError>
-    requires { length cells.now ≤ 1048576 }
+pub fn tree_over(alloc: Global, cells: &[Option<Gate>]) -> Result<Vec<u64>, OutOfMemory>
+    requires { length cells.now ≤ MAX_GATES }
     ensures tree { IfOk result (λ words. IsTreeOf cells.now words.items) }
     ensures unused { IfOk result (λ words. slice_index words.items 0 ≡ 0) }
 {
