@@ -2,7 +2,7 @@ use Rattle.std.proofs.Common.{◌∙◌, arith, get_or, length}
 use Rattle.std.specs.List.Sorted.{IsStrictlyIncreasing}
 use Rattle.pq_array.specs.Cells.{live}
 use Rattle.pq_array.proofs.Ranks.{length-live-le}
-use Rattle.pq_finger.specs.Gaps.{segment_from, segment_to}
+use Rattle.pq_gaps.specs.Gaps.{segment_from, segment_to}
 use Rattle.pq_loop.specs.Segments.{AreOfRun}
 use Rattle.pq_loop.proofs.Making.{behind_jobs, jobs_more, gaps_far}
 use Rattle.pq_loop.proofs.segments.jobs_of.Goals as goal
