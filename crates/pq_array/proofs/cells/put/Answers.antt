@@ -4,7 +4,7 @@ use Rattle.std.specs.Option.{option_copied}
 use Rattle.std.proofs.lemmas.List.{drop_all}
 use Rattle.std.proofs.lemmas.Option.{slice_get_past, slice_get_read}
 use Rattle.pq_array.proofs.Replacing.{replaced, replaced_more, Replaces-replaced}
-use Rattle.pq_array.proofs.array.put.Goals as goal
+use Rattle.pq_array.proofs.cells.put.Goals as goal
 
 -- what `get` gives
 copied_is : {A : Type 0} (items : List A) (i : ℕ) (item : Option (Bor A)) → IsItemAt items i item → option_copied item ≡ slice_get items i

@@ -3,7 +3,7 @@ use Rattle.rand_core.specs.Steps.{stream_of}
 use Rattle.rand_xoshiro.specs.SplitMix64.{splitmix_steps}
 use Rattle.pq_generate.specs.Generated.{gates_from}
 use Rattle.pq_generate.proofs.Words.{gates_of}
-use Rattle.pq_generate.proofs.generating.generate.Given as goal
+use Rattle.pq_generate.proofs.generating.gates_of_seed.Given as goal
 
 abbrev pub invariant-loop-number : goal.invariant-loop-number
 invariant-loop-number l = record {

@@ -1,6 +1,6 @@
 use Rattle.std.proofs.Common.{◌≡◌, drop}
 use Rattle.pq_array.proofs.Replacing.{replaced}
-use Rattle.pq_array.proofs.array.put.Given as goal
+use Rattle.pq_array.proofs.cells.put.Given as goal
 
 -- what is left to put gives what all would give at the start
 abbrev pub invariant-loop-number : goal.invariant-loop-number
