@@ -9,6 +9,7 @@ pub mod Arguments
 pub mod Registers
 pub mod Listed
 pub mod Tails
+pub mod Marks
 pub mod Readers
 pub mod Expansion
 pub mod After
