@@ -7,6 +7,7 @@ pub mod Words
 pub mod Environment
 pub mod Arguments
 pub mod Registers
+pub mod Spans
 pub mod Listed
 pub mod Tails
 pub mod Marks

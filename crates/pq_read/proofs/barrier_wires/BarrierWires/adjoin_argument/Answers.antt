@@ -1,4 +1,4 @@
-use Rattle.std.proofs.Common.{◌≡◌, ◌≤◌, ◌+◌, sym, ap, ◌∙◌, subst, true, arith}
+use Rattle.std.proofs.Common.{◌≡◌, ◌+◌, sym, ◌∙◌, subst, true, arith}
 use Rattle.pq_read.specs.Marks.{has}
 use Rattle.pq_read.proofs.Marks.{known_first, all_listed, marked_whole}
 use Rattle.pq_read.proofs.barrier_wires.BarrierWires.adjoin_argument.Goals as goal
