@@ -1,4 +1,4 @@
-use crate::run_round;
+use crate::{OpenGate, run_round};
 use pq_array::GateArray;
 use pq_board::Jobs;
 use pq_gate::Gate;
@@ -25,7 +25,7 @@ fn each_job_is_worked_under_its_number(rt: HostRuntime) -> Result<(), Fail> {
     jobs.add(&[0, 1])?;
     jobs.add(&[2, 3])?;
     let rules = Rules::builtin(rt.alloc())?;
-    let list = run_round(rt.alloc(), &array, &jobs, &rules, 2)?;
+    let list = run_round(&rt, rt.alloc(), &array, &jobs, &rules, 2, 4, &OpenGate)?;
     assert_eq!(rt; list.as_slice().len(), 2);
     is_worked(&rt, &list.as_slice()[0], 0, &[H, H]);
     is_worked(&rt, &list.as_slice()[1], 1, &[X, X]);
