@@ -1,7 +1,7 @@
 //! A list with the room that was asked for: what the lists of the public surface are.
 #![tactic(auto)]
 
-ghost use Rattle.std.specs.Prelude.{◌≡◌, ◌<◌, ◌≤◌, [], ◌∷◌, ◌++◌, length, IfOk, vec_len, vec_capacity};
+ghost use Rattle.std.specs.Prelude.{◌≡◌, ◌<◌, ◌≤◌, [], ◌∷◌, ◌++◌, length, slice_set, IfOk, vec_len, vec_capacity};
 
 use std::alloc::{AllocError, Global};
 use std::marker::Model;
@@ -77,6 +77,17 @@ impl<T> RoomList<T> {
     {
         let RoomList { list, asked: _ } = self;
         list
+    }
+}
+
+impl<T: Copy> RoomList<T> {
+    /// Writes an item over another. It takes no memory.
+    pub fn put(&mut self, number: u64, item: T)
+        requires { number < length self.old.items }
+        ensures items { self.new.items ≡ slice_set self.old.items number item }
+        ensures room { self.new.room ≡ self.old.room }
+    {
+        self.list[number as usize] = item;
     }
 }
 

@@ -14,4 +14,4 @@ mod wires;
 
 pub use redex::Redex;
 pub use search::{find_first, find_within};
-pub use segment::{MAX_ROOM, Seg};
+pub use segment::Seg;

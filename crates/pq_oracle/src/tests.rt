@@ -2,9 +2,10 @@ ghost use Rattle.std.specs.Prelude.{◌≡◌, ◌≤◌, length, IfOk};
 
 use crate::{Outcome, Worked, WorkedList, improve};
 use pq_gate::{Eighths, Gate, GateList};
+use pq_list::OutOfMemory;
 use pq_match::Seg;
 use pq_rules::Rules;
-use std::alloc::{AllocError, Global};
+use std::alloc::Global;
 use std::process::Abort;
 use std::test::Fail;
 
@@ -38,7 +39,7 @@ const TDG: Gate = Gate::Phase {
 };
 
 // The segment of these gates, with room for no more.
-fn segment(alloc: Global, gates: &[Gate]) -> Result<Seg, AllocError>
+fn segment(alloc: Global, gates: &[Gate]) -> Result<Seg, OutOfMemory>
     requires { length gates.now ≤ 16 }
     ensures { IfOk result (λ seg. seg.items ≡ gates.now) }
 {
@@ -55,7 +56,7 @@ fn leaves(
     left: &[Gate],
     improved: bool,
     phase: u8,
-) -> Result<(), AllocError>
+) -> Result<(), OutOfMemory>
     requires { length gates.now ≤ 16 }
 {
     let rules = Rules::builtin(rt.alloc())?;

@@ -222,6 +222,9 @@ fn push_gates(
     requires { AreArguments arguments.now }
     ensures { OnOk result (gates.new.items ≡ gates.old.items ++ gates_of word (listed arguments.now)) }
 {
+    if gates_each(word) == 0 {
+        return Ok(());
+    }
     for k in 0..arguments.instances() {
         let (a, b, c) = arguments.places(k);
         push_instance(gates, word, a, b, c)?;

@@ -123,7 +123,7 @@ impl Reader {
                     &self.classical,
                     &self.quantum,
                 )?;
-                self.quantum.push(register)?;
+                self.quantum.push(alloc, register)?;
                 Ok(())
             }
             FirstWord::Creg => {
@@ -135,7 +135,7 @@ impl Reader {
                     &self.classical,
                     &self.classical,
                 )?;
-                self.classical.push(register)?;
+                self.classical.push(alloc, register)?;
                 Ok(())
             }
             FirstWord::Barrier => {
