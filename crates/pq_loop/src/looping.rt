@@ -1,4 +1,5 @@
 ghost use Rattle.std.specs.Prelude.{◌≡◌, ◌↔◌, ◌+◌, ◌*◌, ◌%◌, ◌<◌, ◌≤◌, ℕ, [], IfOk, IsTrue, length};
+ghost use Rattle.pq_limits.specs.Limits.{AreWorkers};
 ghost use Rattle.pq_array.specs.Cells.{live};
 ghost use Rattle.pq_gate.specs.Circuit.{IsCircuit};
 ghost use Rattle.pq_gate.specs.Matrix.{Same};
@@ -14,9 +15,11 @@ use pq_array::GateArray;
 use pq_finger::Fingers;
 use pq_gate::{Gate, GateList};
 use pq_method::Step;
+use pq_round::WorkGate;
 use pq_rules::Rules;
 use std::alloc::{AllocError, Global};
 use std::marker::Model;
+use std::thread::Threads;
 
 /// Rounds over the gates of a circuit. Contracts see the state, which is the gates that are left and the
 /// fingers as gaps; the window length Omega and the rules; and the rounds, the oracle's calls and the phase
@@ -115,9 +118,18 @@ impl Loop {
     }
 
     /// One round, while there is a finger: the segments of the selected fingers are given to the oracle, its answers
-    /// are put in their places, and the fingers are settled and moved. Where memory is refused, the loop is spent.
-    pub fn round(self, alloc: Global) -> Result<(Loop, Step), AllocError>
-        requires { 0 < length self.state.fingers }
+    /// are put in their places, and the fingers are settled and moved. So many workers, 1 to 64, give them to the oracle,
+    /// as `run_round` of `pq_round` says; the gate is called before and after each. Where memory is refused, the loop is
+    /// spent.
+    pub fn round<R: Threads + Sync, G: WorkGate>(
+        self,
+        rt: &R,
+        alloc: Global,
+        workers: u32,
+        gate: &G,
+    ) -> Result<(Loop, Step), AllocError>
+        requires going { 0 < length self.state.fingers }
+        requires workers { AreWorkers workers }
         ensures round { IfOk result (λ made. Round self.rules self.omega self.state made.0.state made.1) }
         ensures settings { IfOk result (λ made. (made.0.omega ≡ self.omega) × (made.0.rules ≡ self.rules) × (made.0.first_fingers ≡ self.first_fingers)) }
         ensures rounds { IfOk result (λ made. made.0.rounds ≡ self.rounds + 1) }
@@ -139,7 +151,9 @@ impl Loop {
             phase,
             first_fingers,
         } = self;
-        let (fingers, step) = work_round(alloc, &mut array, &fingers, &rules, omega)?;
+        let (fingers, step) = work_round(
+            rt, alloc, &mut array, &fingers, &rules, omega, workers, gate,
+        )?;
         let after = Loop {
             array,
             fingers,
