@@ -1,1 +1,6 @@
 pub mod Listing
+pub mod Sums
+pub mod Ways
+pub mod Bounds
+pub mod Keeping
+pub mod Allowed
