@@ -70,8 +70,8 @@ lower_allowed plan slots id me ticket place node rest same low held early there 
       keeps,
       tt,
       rw less
-      (back plan v (set s.words node (n - 1)) (set s.views id (with_lowered (at_nodes ticket place (node ∷ [])) v)) same
-      (lowers s.words s.views id v ticket place node (n - 1) rest its at low held early there next (omega arith))),
+          (back plan v (set s.words node (n - 1)) (set s.views id (with_lowered (at_nodes ticket place (node ∷ [])) v)) same
+          (lowers s.words s.views id v ticket place node (n - 1) rest its at low held early there next (omega arith))),
       (refl, refl),
     )
 

@@ -97,7 +97,7 @@ lowered_le plan view node stands =
       arith,
       lowerings_by_place node (places_of plan view) view.lowered (inside_jobs plan view stands),
       weigh_le (λ place. times node (nodes_at place view.lowered)) (λ place. times node (way (leaves plan) place)) (places_of plan view)
-      (λ j place at. times_front node (way (leaves plan) place) (nodes_at place view.lowered) (stands.in_order place)),
+          (λ j place at. times_front node (way (leaves plan) place) (nodes_at place view.lowered) (stands.in_order place)),
       weigh_flat (λ place. times node (way (leaves plan) place)) (job plan) view.tickets,
     )
 
@@ -113,7 +113,7 @@ lowered_lt plan view ticket place node rest stands held there next = by (contain
           arith,
           lowerings_by_place node (places_of plan view) view.lowered (inside_jobs plan view stands),
           weigh_lt (λ p. times node (nodes_at p view.lowered)) (λ p. times node (way (leaves plan) p)) (places_of plan view) i place at (omega (arith, fewer.0, fewer.1))
-          (λ j p at. times_front node (way (leaves plan) p) (nodes_at p view.lowered) (stands.in_order p)),
+              (λ j p at. times_front node (way (leaves plan) p) (nodes_at p view.lowered) (stands.in_order p)),
           weigh_flat (λ p. times node (way (leaves plan) p)) (job plan) view.tickets,
         )
 
@@ -182,8 +182,8 @@ opening_counts plan is node low = ⊎_elim inside past (cases_lt node (2 * 2 ^ i
           arith,
           weigh_within (λ place. times node (way (leaves plan) place)) (concat plan.jobs) (live_leaves plan.words.items) is.rising is.tree.in_order is.live,
           counted_weigh (λ place. HalvesTo (leaves plan + place) node) (λ place. times node (way (leaves plan) place))
-          (λ place here. times_on (leaves plan) place node low here) (λ place out. times_off (leaves plan) place node out)
-          (live_leaves plan.words.items) (get_or plan.words.items node 0) counted,
+              (λ place here. times_on (leaves plan) place node low here) (λ place out. times_off (leaves plan) place node out)
+              (live_leaves plan.words.items) (get_or plan.words.items node 0) counted,
         )
 
     above : 2 * 2 ^ is.tree.height ≤ node → (j place : ℕ) → get_elem? (concat plan.jobs) j ≡ some place → times node (way (leaves plan) place) ≡ 0

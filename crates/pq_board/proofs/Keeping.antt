@@ -87,6 +87,7 @@ alone plan words views id v law at whole f none = weigh_only f (stake plan) view
 -- what a look tells
 pub looked : (words : List ℕ) (views : List View) (id : ℕ) (v : View) → Lawful v.plan words views → get_elem? views id ≡ some v → Looked v (get_or words 0 0)
 looked words views id v law at = record {
+  few = omega (arith, weigh_part (stake v.plan) views id v at, law.stakes);
   once = ticket_once v.plan words views id v law at;
   whole = λ all h. sym (alone v.plan words views id v law at all (λ u. weigh h u.tickets) refl) ∙ law.tickets h;
 }
@@ -188,15 +189,15 @@ opens plan is zero_first = record {
     one (suc seat) u at = absurd (some-ne-none u (sym at))
 
 -- the lowerings for a place, of lists that are joined
-nodes-append : (place : ℕ) (ls ms : List Lowering) → nodes_at place (ls ++ ms) ≡ nodes_at place ls ++ nodes_at place ms
+pub nodes-append : (place : ℕ) (ls ms : List Lowering) → nodes_at place (ls ++ ms) ≡ nodes_at place ls ++ nodes_at place ms
 nodes-append place ls ms =
     ap (λ (l : List Lowering). map (λ m. m.node) l) (filter-append (λ m. eqb m.place place) ls ms)
     ∙ map-append (λ (m : Lowering). m.node) (filter (λ m. eqb m.place place) ls) (filter (λ m. eqb m.place place) ms)
 
-kept_here : (l : Lowering) (place : ℕ) → l.place ≡ place → nodes_at place (l ∷ []) ≡ l.node ∷ []
+pub kept_here : (l : Lowering) (place : ℕ) → l.place ≡ place → nodes_at place (l ∷ []) ≡ l.node ∷ []
 kept_here l place same = ap (λ (b : Bool). map (λ (m : Lowering). m.node) (cond b (l ∷ []) [])) (let t : eqb l.place place ≡ true = grind (arith, nat_tests) in t)
 
-kept_not : (l : Lowering) (place : ℕ) → l.place ≢ place → nodes_at place (l ∷ []) ≡ []
+pub kept_not : (l : Lowering) (place : ℕ) → l.place ≢ place → nodes_at place (l ∷ []) ≡ []
 kept_not l place apart = ap (λ (b : Bool). map (λ (m : Lowering). m.node) (cond b (l ∷ []) [])) (let t : eqb l.place place ≡ false = grind (arith, nat_tests) in t)
 
 -- there is room for one lowering more
@@ -207,7 +208,7 @@ lowers_room words views id v ticket place node rest law at low held there next =
     omega (
       arith,
       weigh_lt (λ (u : View). lowerings_of node u.lowered) (λ (u : View). weigh (places_below v.plan node) u.tickets) views id v at
-      (lowered_lt v.plan v ticket place node rest s held there next) each_le,
+          (lowered_lt v.plan v ticket place node rest s held there next) each_le,
       law.tickets (places_below v.plan node),
       below_joined (λ p. times node (way (leaves v.plan) p)) v.plan.jobs (get_or words 0 0),
       opening_counts v.plan law.opened node low,

@@ -4,3 +4,4 @@ pub mod Ways
 pub mod Bounds
 pub mod Keeping
 pub mod Allowed
+pub mod Whole

@@ -78,15 +78,11 @@ spent = record { plan = record { jobs = []; words = record { items = []; room = 
 pub record Lawful (plan : Plan) (words : List ℕ) (views : List View) : Type 0 where
   pub opened : IsPlan plan
   pub size : length words ≡ length plan.words.items
-
   -- the tickets of all passes, taken together, are the numbers below word 0, each once
   pub tickets : (h : ℕ → ℕ) → weigh (λ view. weigh h view.tickets) views ≡ below h (slice_index words 0)
-
   -- the stakes of all passes are, added up, the number of passes that the board was opened for
   pub stakes : weigh (stake plan) views ≡ plan.passes
-
   -- each pass is spent, or its stake and its lowerings are in order
   pub each : (seat : ℕ) (view : View) → get_elem? views seat ≡ some view → (view ≡ spent) ⊎ Stands plan view
-
   -- the word of a node of the tree, and the lowerings of it by all passes, are what the word was at the opening
   pub counts : (node : ℕ) → 1 ≤ node → slice_index words node + weigh (λ view. lowerings_of node view.lowered) views ≡ slice_index plan.words.items node

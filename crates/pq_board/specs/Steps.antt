@@ -19,6 +19,14 @@ pub record Held : Type 0 where
   pub board : TableId
   pub view : View
 
+-- what a receipt says of the board that was closed: how many jobs there were, how many of the tickets had one, and the word of the root
+-- at the opening and at the closing
+pub record Numbers : Type 0 where
+  pub jobs : ℕ
+  pub claimed : ℕ
+  pub opened : ℕ
+  pub closed : ℕ
+
 -- the pass came from the opening of the board, or by a split from such a pass
 pub record BelongsTo (board : Opened) (pass : Held) : Type 0 where
   pub here : pass.board ≡ board.id
@@ -95,8 +103,21 @@ HoldAll plan tickets = (ticket : ℕ) → ticket < length plan.jobs → times ti
 abbrev pub AreOnce : List ℕ → Type 0
 AreOnce tickets = (ticket : ℕ) → times ticket tickets ≤ 1
 
--- What a look at word 0 tells a pass: none of its tickets stands twice; and where it is the one pass that is left, its tickets are the
--- numbers below word 0, each once.
+-- the tickets are the numbers below how many they are, each once
+abbrev pub AreFirst : List ℕ → Type 0
+AreFirst tickets = (h : ℕ → ℕ) → weigh h tickets ≡ below h (length tickets)
+
+-- how many of the tickets have a job
+abbrev pub early : Plan → List ℕ → ℕ
+early plan tickets = weigh (λ ticket. cond (nat_lt ticket (length plan.jobs)) 1 0) tickets
+
+-- how many of these places stand below a node
+abbrev pub places_under : Plan → ℕ → List ℕ → ℕ
+places_under plan node places = weigh (λ place. times node (way (leaves plan) place)) places
+
+-- What a look at word 0 tells a pass: its rights are no more than there are passes, none of its tickets stands twice; and where it is
+-- the one pass that is left, its tickets are the numbers below word 0, each once.
 pub record Looked (view : View) (found : ℕ) : Type 0 where
+  pub few : view.rights ≤ view.plan.passes
   pub once : AreOnce view.tickets
   pub whole : stake view.plan view ≡ view.plan.passes → (h : ℕ → ℕ) → weigh h view.tickets ≡ below h found

@@ -9,6 +9,6 @@ fetch_add-ticket-requires c =
     let right = rw (← c.pass.view_is) at c.requires.right in
     let inv = c.self.invariant in (
       belongs.here,
-      omega (arith, inv.1, plan_words c.self.inside.plan inv.2),
+      omega (arith, inv.1, plan_words c.self.inside.plan inv.3),
       claim_allowed c.self.inside.table.shared.key c.self.inside.table.shared.table_id.slots c.pass.inside.seat.id c.pass.inside.seat.me (inv.0 ∙ sym belongs.plan) right,
     )
