@@ -19,6 +19,10 @@ use Rattle.pq_board.proofs.Keeping.{ticket_below, few_drawn, looked, claims, spl
 pub plan_words : (plan : Plan) → IsPlan plan → 2 ≤ length plan.words.items
 plan_words plan is = omega (arith, is.tree.size, pow_pos is.tree.height)
 
+-- and at least one leaf
+pub plan_leaves : (plan : Plan) → IsPlan plan → 1 ≤ leaves plan
+plan_leaves plan is = omega (arith, plan_words plan is)
+
 -- the law, as a fact of a table
 abbrev pub Keeps : Plan → State (Unit {0}) View → Type 0
 Keeps plan s = Lawful plan s.words s.views

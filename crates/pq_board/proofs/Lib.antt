@@ -5,3 +5,5 @@ pub mod Bounds
 pub mod Keeping
 pub mod Allowed
 pub mod Whole
+pub mod Climbing
+pub mod Closing

@@ -4,12 +4,14 @@ ghost use Rattle.pq_limits.specs.Limits.{AreWorkers};
 ghost use Rattle.pq_array.specs.Counts.{Counts};
 ghost use Rattle.pq_board.specs.Sums.{weigh, times};
 ghost use Rattle.pq_board.specs.Ways.{way, live_leaves};
-ghost use Rattle.pq_board.specs.Law.{leaves, job, stake, late};
-ghost use Rattle.pq_board.specs.Steps.{BelongsTo, unused, without_rights, with_lowered, with_both, whole_way, lowered_places, Claimed, HoldAll, AreOnce, AreFirst};
+ghost use Rattle.pq_board.specs.Law.{IsPlan, leaves, job, nodes_at, stake, late};
+ghost use Rattle.std.specs.Mem.Slots.{slots_items, slots_len, IsFull};
+ghost use Rattle.pq_board.specs.Steps.{BelongsTo, unused, without_rights, with_lowered, with_both, whole_way, lowered_places, Claimed, HoldAll, AreOnce, AreFirst, early, places_under};
 
 use crate::jobs::Jobs;
 use crate::pass::Pass;
 use crate::plan::{Plan, View};
+use crate::receipt::Receipt;
 use crate::rule::{Aim, Claims, Gives, Law, Looks, Lowers, Part, Takes};
 use atomic_table::{Seat, Table};
 use pq_array::WordList;
@@ -18,6 +20,9 @@ use std::marker::{Brand, Model};
 
 /// The words of a board, which change in single steps.
 type Words = Table<(), View, Plan, Law, Global>;
+
+/// The words of a board that was taken apart.
+type Last = atomic_table::Closed<(), Global>;
 
 /// What threads share in a round: the jobs, one counter from which tickets are drawn, and the words of the
 /// tree of counts. Contracts see which board it is, and what it was opened with. Each call but `open`
@@ -112,6 +117,109 @@ impl Board {
         ensures first { AreFirst pass.old.view.tickets }
     {
         self.table.shared.load::<Looks>(&mut pass.seat, 0);
+    }
+
+    /// Lowers a place of the job of a ticket that the pass holds: one from each word on the way from the
+    /// place's leaf to the root.
+    pub fn lower(&self, pass: &mut Pass, ticket: u64, place: u64)
+        requires belongs { BelongsTo self.now pass.old }
+        requires held { Contains pass.old.view.tickets ticket }
+        requires early { ticket < length self.now.plan.jobs }
+        requires job { Contains (job self.now.plan ticket) place }
+        requires fresh { Contains (lowered_places pass.old.view.lowered) place → ⊥ }
+        ensures board { pass.new.board ≡ pass.old.board }
+        ensures lowered { pass.new.view ≡ with_lowered (whole_way (leaves self.now.plan) ticket place) pass.old.view }
+        ensures places { lowered_places pass.new.view.lowered ≡ lowered_places pass.old.view.lowered ++ place ∷ [] }
+    {
+        let leaf = self.plan.words.as_slice().len() as u64 / 2 + place;
+        climb::<Brand>(&self.table, &mut pass.seat, ticket, place, leaf);
+    }
+
+    /// Takes the board apart once one pass is left: the words as they are then, the jobs of the opening,
+    /// and a receipt. Word 0 is the number of tickets that were drawn, and each word of the tree is the
+    /// opening one less the lowered places below it.
+    pub fn close(self, pass: Pass) -> Closed
+        requires belongs { BelongsTo self pass }
+        requires alone { stake self.plan pass.view ≡ self.plan.passes }
+        ensures jobs { result.jobs ≡ self.plan.jobs }
+        ensures size { length result.words.items ≡ length self.plan.words.items }
+        ensures drawn { slice_index result.words.items 0 ≡ length pass.view.tickets }
+        ensures counts { (node : ℕ) → 1 ≤ node →
+            slice_index result.words.items node + places_under self.plan node (lowered_places pass.view.lowered) ≡ slice_index self.plan.words.items node }
+        ensures first { AreFirst pass.view.tickets }
+        ensures all { 1 ≤ late self.plan pass.view.tickets → HoldAll self.plan pass.view.tickets }
+        ensures receipt { result.receipt ≡ record {
+          jobs = length self.plan.jobs;
+          claimed = early self.plan pass.view.tickets;
+          opened = slice_index self.plan.words.items 1;
+          closed = slice_index result.words.items 1;
+        } }
+    {
+        let Board { plan, table } = self;
+        let Pass { seat, rights } = pass;
+        let Plan {
+            jobs,
+            mut words,
+            passes,
+        } = plan;
+        let opened = words.as_slice()[1];
+        let last = table.close_with(seat);
+        put_words(&mut words, &last);
+        last.free();
+        let receipt = Receipt {
+            jobs: jobs.count(),
+            claimed: words.as_slice()[0] - u64::from(passes - rights),
+            opened,
+            closed: words.as_slice()[1],
+        };
+        Closed {
+            words,
+            jobs,
+            receipt,
+        }
+    }
+}
+
+/// What is left of a board that was closed.
+#[derive(Drop)]
+pub struct Closed {
+    pub words: WordList,
+    pub jobs: Jobs,
+    pub receipt: Receipt,
+}
+
+/// Lowers the words from a leaf up to the root.
+fn climb<A: Aim>(table: &Words, seat: &mut Seat<(), View>, ticket: u64, place: u64, leaf: u64)
+    requires ticket { ticket ≡ A.ticket }
+    requires place { place ≡ A.place }
+    requires here { seat.old.table_id ≡ table.now.shared.table_id }
+    requires plan { table.now.shared.key ≡ seat.old.me.0.plan }
+    requires opened { IsPlan seat.old.me.0.plan }
+    requires words { table.now.shared.table_id.words ≡ length seat.old.me.0.plan.words.items }
+    requires held { Contains seat.old.me.0.tickets ticket }
+    requires early { ticket < length seat.old.me.0.plan.jobs }
+    requires job { Contains (job seat.old.me.0.plan ticket) place }
+    requires fresh { nodes_at place seat.old.me.0.lowered ≡ [] }
+    requires leaf { leaf ≡ leaves seat.old.me.0.plan + place }
+    ensures here { seat.new.table_id ≡ seat.old.table_id }
+    ensures none { seat.new.me.1 ≡ seat.old.me.1 }
+    ensures lowered { seat.new.me.0 ≡ with_lowered (whole_way (leaves seat.old.me.0.plan) ticket place) seat.old.me.0 }
+{
+    let mut node = leaf;
+    while node > 0 {
+        table.shared.fetch_sub::<Lowers<A>>(seat, node as usize, 1);
+        node /= 2;
+    }
+}
+
+/// Puts the words of a table that is closed into a list of as many words.
+fn put_words(words: &mut WordList, last: &Last)
+    requires full { IsFull last.now.words }
+    requires size { length words.old.items ≡ slots_len last.now.words }
+    ensures items { words.new.items ≡ slots_items last.now.words }
+{
+    for number in 0..words.as_slice().len() {
+        words.put(number as u64, last.word(number));
     }
 }
 

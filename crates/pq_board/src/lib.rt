@@ -5,12 +5,14 @@ mod board;
 mod jobs;
 mod pass;
 mod plan;
+mod receipt;
 mod rule;
 #[cfg(test)]
 mod tests;
 
-pub use board::Board;
+pub use board::{Board, Closed};
 pub use jobs::Jobs;
 pub use pass::Pass;
 pub use plan::{Lowering, Plan, View};
 pub use pq_limits::MAX_JOBS;
+pub use receipt::Receipt;

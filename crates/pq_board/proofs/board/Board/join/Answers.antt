@@ -18,7 +18,7 @@ join_seat-requires c =
       c.from.invariant.1,
       omega (arith, inv.1, plan_words c.self.inside.plan inv.3),
       join_allowed c.self.inside.table.shared.key c.into.inside.seat.id c.into.inside.seat.me.0 c.from.inside.seat.id c.from.inside.seat.me.0
-      (inv.0 ∙ sym belongs.plan) (inv.0 ∙ sym too.plan),
+          (inv.0 ∙ sym belongs.plan) (inv.0 ∙ sym too.plan),
     )
 
 pub load-requires : goal.load-requires
@@ -28,7 +28,7 @@ load-requires c =
       c.join_seat.ensures.0 ∙ belongs.here,
       omega (arith, inv.1, plan_words c.self.inside.plan inv.3),
       look_allowed c.self.inside.table.shared.key c.self.inside.table.shared.table_id.slots c.join_seat.new.seat.id c.join_seat.new.seat.me
-      (inv.0 ∙ (sym belongs.plan ∙ ap (λ m. m.0.plan) (sym c.join_seat.ensures.2))),
+          (inv.0 ∙ (sym belongs.plan ∙ ap (λ m. m.0.plan) (sym c.join_seat.ensures.2))),
     )
 
 pub invariant_of-into : goal.invariant_of-into
