@@ -7,3 +7,4 @@ pub mod Allowed
 pub mod Whole
 pub mod Climbing
 pub mod Closing
+pub mod Opening

@@ -45,6 +45,54 @@ impl Model for Board {
 }
 
 impl Board {
+    /// A board for these jobs over the words of a tree, of which each place of a job is a live leaf. Word 0
+    /// becomes 0, and the pass has all the rights. Where memory is refused, both come back unchanged.
+    pub fn open(
+        alloc: Global,
+        mut words: WordList,
+        jobs: Jobs,
+        passes: u32,
+    ) -> Result<(Board, Pass), Unopened>
+        requires passes { AreWorkers passes }
+        requires tree { Counts words.items (live_leaves words.items) }
+        requires live { All (Contains (live_leaves words.items)) (concat jobs) }
+        ensures jobs { IfOk result (λ made. made.0.plan.jobs ≡ jobs) }
+        ensures words { IfOk result (λ made. made.0.plan.words.items ≡ slice_set words.items 0 0) }
+        ensures room { IfOk result (λ made. made.0.plan.words.room ≡ words.room) }
+        ensures passes { IfOk result (λ made. made.0.plan.passes ≡ passes) }
+        ensures board { IfOk result (λ made. made.1.board ≡ made.0.id) }
+        ensures pass { IfOk result (λ made. made.1.view ≡ unused made.0.plan passes) }
+        ensures unopened_words { IfErr result (λ back. back.words ≡ words) }
+        ensures unopened_jobs { IfErr result (λ back. back.jobs ≡ jobs) }
+    {
+        let first = words.as_slice()[0];
+        words.put(0, 0);
+        let _rising = jobs.count();
+        let plan = Plan {
+            jobs,
+            words,
+            passes,
+        };
+        match Table::of_words(alloc, plan.words.as_slice(), &plan) {
+            Ok((table, seat)) => Ok((
+                Board { plan, table },
+                Pass {
+                    seat,
+                    rights: passes,
+                },
+            )),
+            Err(_) => {
+                let Plan {
+                    jobs,
+                    mut words,
+                    passes: _,
+                } = plan;
+                words.put(0, first);
+                Err(Unopened { words, jobs })
+            }
+        }
+    }
+
     /// How many jobs there are.
     pub fn job_count(&self) -> u64
         ensures { result ≡ length self.now.plan.jobs }
@@ -178,6 +226,13 @@ impl Board {
             receipt,
         }
     }
+}
+
+/// What comes back where there was no memory for a board: what was handed in, unchanged.
+#[derive(Drop)]
+pub struct Unopened {
+    pub words: WordList,
+    pub jobs: Jobs,
 }
 
 /// What is left of a board that was closed.

@@ -10,7 +10,7 @@ mod rule;
 #[cfg(test)]
 mod tests;
 
-pub use board::{Board, Closed};
+pub use board::{Board, Closed, Unopened};
 pub use jobs::Jobs;
 pub use pass::Pass;
 pub use plan::{Lowering, Plan, View};

@@ -12,8 +12,8 @@ fetch_sub-requires g c =
       c.loop-node.invariant.here ∙ c.requires.here,
       rw c.requires.words (climb_inside v.plan c.requires.opened c.args.ticket c.args.place c.loop-node.node v c.loop-node.seat.me.0 c.requires.early c.requires.job low c.loop-node.invariant.climbs),
       rw (← t, ← p)
-      (climb_allowed c.args.table.now.shared.key c.args.table.now.shared.table_id.slots c.loop-node.seat.id c.loop-node.seat.me c.args.ticket c.args.place c.loop-node.node v
-      c.requires.plan low c.requires.held c.requires.early c.requires.job c.requires.fresh c.loop-node.invariant.climbs),
+          (climb_allowed c.args.table.now.shared.key c.args.table.now.shared.table_id.slots c.loop-node.seat.id c.loop-node.seat.me c.args.ticket c.args.place c.loop-node.node v
+          c.requires.plan low c.requires.held c.requires.early c.requires.job c.requires.fresh c.loop-node.invariant.climbs),
     )
 
 pub loop-node-preserved : goal.loop-node-preserved
