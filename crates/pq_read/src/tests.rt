@@ -213,6 +213,35 @@ fn limits_are_reached(rt: HostRuntime) -> Result<(), AllocError> {
     Ok(())
 }
 
+// The declarations of 4,096 registers of one qubit, r0 to r4095.
+fn registers_of_one(alloc: Global) -> Result<String, AllocError> {
+    let mut text = String::new(alloc);
+    for i in 0..4096 {
+        let line = format!(in alloc; "qreg r{i}[1];\n")?;
+        text.push_str(line.as_str())?;
+    }
+    Ok(text)
+}
+
+#[test]
+fn time_grows_with_the_bytes(rt: HostRuntime) -> Result<(), AllocError> {
+    let alloc = rt.alloc();
+    assert_eq!(rt;
+        told_lines(alloc, "qreg q[4096];\nbarrier q", ",q", 100_000)?,
+        Some((3, 4, 200_010))
+    );
+    assert_eq!(rt;
+        told_lines(alloc, "qreg q[4096];\n", "id q;\n", 100_000)?,
+        Some((0, 0, 0))
+    );
+    let registers = registers_of_one(alloc)?;
+    assert_eq!(rt;
+        told_lines(alloc, registers.as_str(), "id r4095[0];\n", 50_000)?,
+        Some((0, 0, 0))
+    );
+    Ok(())
+}
+
 #[test]
 fn names_and_lists_are_made(rt: HostRuntime) -> Result<(), AllocError> {
     assert!(rt; Name::of(rt.alloc(), "q")?.as_str() == "q");
