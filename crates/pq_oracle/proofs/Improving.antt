@@ -1,5 +1,5 @@
 -- The oracle's answers by one rewriting after another.
-use Rattle.std.proofs.Common.{◌≤◌, ◌↔◌, Some, None, ◌≡◌, ℕ, ◌+◌, ◌%◌, ◌<◌, Bool, true, false, ◌||◌, List, length, refl, ap, ◌∙◌, subst, arith}
+use Rattle.std.proofs.Common.{◌≤◌, ◌↔◌, ◌≡◌, ℕ, ◌+◌, ◌%◌, ◌<◌, Bool, true, false, ◌||◌, List, length, refl, ap, ◌∙◌, subst, arith}
 use Rattle.pq_gate.specs.declared.gate.Gate.{Gate}
 use Rattle.pq_gate.specs.Circuit.{IsCircuit}
 use Rattle.pq_gate.specs.Matrix.{Same}

@@ -1,11 +1,12 @@
 use crate::{Name, Options, ReadError, RegList, TailList, read_text};
-use pq_lex::MAX_TEXT;
-use std::alloc::{AllocError, Global};
+use pq_limits::MAX_INPUT;
+use pq_list::OutOfMemory;
+use std::alloc::Global;
 
 // What a text gives: the number of the kind, the line and the column of a refusal, or 0, the number
 // of gates and the number of tail items of a program.
 fn told(alloc: Global, text: &[u8], drop_barriers: bool) -> Option<(u8, u32, u32)> {
-    if text.len() > MAX_TEXT {
+    if text.len() as u64 > MAX_INPUT {
         return None;
     }
     match read_text(alloc, text, Options { drop_barriers }) {
@@ -27,7 +28,7 @@ fn told_lines(
     first: &str,
     line: &str,
     count: u32,
-) -> Result<Option<(u8, u32, u32)>, AllocError> {
+) -> Result<Option<(u8, u32, u32)>, OutOfMemory> {
     let mut text = Vec::new(alloc);
     text.extend_from_slice(b"OPENQASM 2.0;\ninclude \"qelib1.inc\";\n")?;
     text.extend_from_slice(first.as_bytes())?;
@@ -42,7 +43,7 @@ fn told_after(
     alloc: Global,
     lines: &str,
     drop_barriers: bool,
-) -> Result<Option<(u8, u32, u32)>, AllocError> {
+) -> Result<Option<(u8, u32, u32)>, OutOfMemory> {
     let mut text = Vec::new(alloc);
     text.extend_from_slice(b"OPENQASM 2.0;\ninclude \"qelib1.inc\";\n")?;
     text.extend_from_slice(lines.as_bytes())?;
@@ -84,7 +85,7 @@ fn a_text_by_hand_and_its_cuts(rt: HostRuntime) {
 }
 
 #[test]
-fn faults_stand_at_their_tokens(rt: HostRuntime) -> Result<(), AllocError> {
+fn faults_stand_at_their_tokens(rt: HostRuntime) -> Result<(), OutOfMemory> {
     for (lines, want) in [
         ("qreg q[2];\ncx q[0],q[0];", (8, 4, 9)),
         ("qreg q[2];\nh q[5];", (7, 4, 5)),
@@ -179,7 +180,7 @@ fn each_kind_once_more(rt: HostRuntime) {
 }
 
 #[test]
-fn limits_are_reached(rt: HostRuntime) -> Result<(), AllocError> {
+fn limits_are_reached(rt: HostRuntime) -> Result<(), OutOfMemory> {
     let alloc = rt.alloc();
     assert_eq!(rt;
         told_lines(alloc, "qreg q[4096];\n", "t q;\n", 256)?,
@@ -214,7 +215,7 @@ fn limits_are_reached(rt: HostRuntime) -> Result<(), AllocError> {
 }
 
 // The declarations of 4,096 registers of one qubit, r0 to r4095.
-fn registers_of_one(alloc: Global) -> Result<String, AllocError> {
+fn registers_of_one(alloc: Global) -> Result<String, OutOfMemory> {
     let mut text = String::new(alloc);
     for i in 0..4096 {
         let line = format!(in alloc; "qreg r{i}[1];\n")?;
@@ -224,7 +225,7 @@ fn registers_of_one(alloc: Global) -> Result<String, AllocError> {
 }
 
 #[test]
-fn time_grows_with_the_bytes(rt: HostRuntime) -> Result<(), AllocError> {
+fn time_grows_with_the_bytes(rt: HostRuntime) -> Result<(), OutOfMemory> {
     let alloc = rt.alloc();
     assert_eq!(rt;
         told_lines(alloc, "qreg q[4096];\nbarrier q", ",q", 100_000)?,
@@ -243,7 +244,7 @@ fn time_grows_with_the_bytes(rt: HostRuntime) -> Result<(), AllocError> {
 }
 
 #[test]
-fn names_and_lists_are_made(rt: HostRuntime) -> Result<(), AllocError> {
+fn names_and_lists_are_made(rt: HostRuntime) -> Result<(), OutOfMemory> {
     assert!(rt; Name::of(rt.alloc(), "q")?.as_str() == "q");
     let registers = RegList::with_room(rt.alloc(), 2)?;
     assert_eq!(rt; registers.room(), 2);

@@ -58,14 +58,15 @@ first_is count from x xs up once = by (within (count_by (λ (y : ℕ). y == x) x
   where
     within : (k : ℕ) → cond (x == x) 1 0 + k ≡ cond (nat_le from x && nat_lt x count) 1 0 → (from ≤ x) × (x < count)
     within k is = grind arith
+
     by : (from ≤ x) × (x < count) → (x ≡ from) × (from < count)
     by in' = ⊎_elim
         (λ less.
-          let none : count_by (λ (y : ℕ). y == from) (x ∷ xs) ≡ 0 = none_less from (x ∷ xs) (λ i lt. omega (arith, less, up 0 i 0 (omega arith) lt)) in
-          let le : nat_le from from ≡ true = le-leb from from (omega arith) in
-          let lt : nat_lt from count ≡ true = lt-ltb from count (omega (arith, in'.0, in'.1)) in
-          let one : count_by (λ (y : ℕ). y == from) (x ∷ xs) ≡ 1 = once from ∙ (rw (le, lt) refl) in
-          absurd (omega (arith, none, one)))
+        let none : count_by (λ (y : ℕ). y == from) (x ∷ xs) ≡ 0 = none_less from (x ∷ xs) (λ i lt. omega (arith, less, up 0 i 0 (omega arith) lt)) in
+        let le : nat_le from from ≡ true = le-leb from from (omega arith) in
+        let lt : nat_lt from count ≡ true = lt-ltb from count (omega (arith, in'.0, in'.1)) in
+        let one : count_by (λ (y : ℕ). y == from) (x ∷ xs) ≡ 1 = once from ∙ (rw (le, lt) refl) in
+        absurd (omega (arith, none, one)))
         (λ le. (omega (arith, le, in'.0), omega (arith, in'.0, in'.1)))
         (cases_lt from x)
 
@@ -84,13 +85,13 @@ in_place count from [] up once = (
 in_place count from (x ∷ xs) up once = by (in_place count (from + 1) xs) (first_is count from x xs up once)
   where
     by : (IsNonDecreasing xs → ((n : ℕ) → count_by (λ y. y == n) xs ≡ cond (nat_le (from + 1) n && nat_lt n count) 1 0) → (length xs ≡ count - (from + 1)) × ((i : ℕ) → i < length xs → get_or xs i 0 ≡ from + 1 + i))
-      → (x ≡ from) × (from < count) → (length (x ∷ xs) ≡ count - from) × ((i : ℕ) → i < length (x ∷ xs) → get_or (x ∷ xs) i 0 ≡ from + i)
+        → (x ≡ from) × (from < count) → (length (x ∷ xs) ≡ count - from) × ((i : ℕ) → i < length (x ∷ xs) → get_or (x ∷ xs) i 0 ≡ from + i)
     by others first =
         let rest : (length xs ≡ count - (from + 1)) × ((i : ℕ) → i < length xs → get_or xs i 0 ≡ from + 1 + i) =
-          others (λ i j d le lt. up (suc i) (suc j) d (omega (arith, le)) (omega (arith, lt)))
-            (λ n. one_less (count_by (λ (y : ℕ). y == n) xs) from count n first.1
-              (subst (λ (y : ℕ). cond (y == n) 1 0 + count_by (λ (z : ℕ). z == n) xs ≡ cond (nat_le from n && nat_lt n count) 1 0) first.0
-                (sym (sum_by-cons (λ (y : ℕ). cond (y == n) 1 0) x xs) ∙ once n))) in
+        others (λ i j d le lt. up (suc i) (suc j) d (omega (arith, le)) (omega (arith, lt)))
+        (λ n. one_less (count_by (λ (y : ℕ). y == n) xs) from count n first.1
+        (subst (λ (y : ℕ). cond (y == n) 1 0 + count_by (λ (z : ℕ). z == n) xs ≡ cond (nat_le from n && nat_lt n count) 1 0) first.0
+        (sym (sum_by-cons (λ (y : ℕ). cond (y == n) 1 0) x xs) ∙ once n))) in
         (omega (arith, rest.0, first.1), at rest.1)
       where
         at : ((i : ℕ) → i < length xs → get_or xs i 0 ≡ from + 1 + i) → (i : ℕ) → i < length (x ∷ xs) → get_or (x ∷ xs) i 0 ≡ from + i
@@ -105,27 +106,27 @@ tickets_up (x ∷ xs) up i j d le lt =
     rw (get_or-map (λ (worked : WorkedView). worked.ticket) (x ∷ xs) i x d (omega (arith, le, below)), get_or-map (λ (worked : WorkedView). worked.ticket) (x ∷ xs) j x d below) (up i j x le below)
 
 -- the results of all jobs, sorted by their tickets, are those of a round
-pub results_in_order : (cells : List (Option Gate)) (jobs : List (List ℕ)) (rules : List RowView) (are : ℕ → Bool) (ys xs : List WorkedView)
-    → AreResultsOf cells jobs rules are ys → ((n : ℕ) → are n ≡ nat_lt n (length jobs)) → IsPermutation ys xs → IsNonDecreasingBy (λ worked. worked.ticket) xs
+pub results_in_order : (cells : List (Option Gate)) (jobs : List (List ℕ)) (rules : List RowView) (ys xs : List WorkedView)
+    → AreResultsOf cells jobs rules (λ n. nat_lt n (length jobs)) ys → IsPermutation ys xs → IsNonDecreasingBy (λ worked. worked.ticket) xs
     → AreResults cells jobs rules xs
-results_in_order cells jobs rules are ys xs some all moved up =
-    by (results_permuted cells jobs rules are ys xs moved some)
+results_in_order cells jobs rules ys xs some moved up = by (results_permuted cells jobs rules (λ n. nat_lt n (length jobs)) ys xs moved some)
   where
-    all_once : AreResultsOf cells jobs rules are xs → (n : ℕ) → count_by (λ ticket. ticket == n) (tickets xs) ≡ cond (nat_le 0 n && nat_lt n (length jobs)) 1 0
-    all_once results n =
-        results.once n ∙ ap (λ (b : Bool). cond b 1 0) (all n ∙ sym (ap (λ (b : Bool). b && nat_lt n (length jobs)) (le-leb 0 n (omega arith))))
-    at : AreResultsOf cells jobs rules are xs → (length (tickets xs) ≡ length jobs - 0) × ((i : ℕ) → i < length (tickets xs) → get_or (tickets xs) i 0 ≡ 0 + i)
-      → AreResults cells jobs rules xs
+    all_once : AreResultsOf cells jobs rules (λ n. nat_lt n (length jobs)) xs → (n : ℕ) → count_by (λ ticket. ticket == n) (tickets xs) ≡ cond (nat_le 0 n && nat_lt n (length jobs)) 1 0
+    all_once results n = results.once n ∙ sym (ap (λ (b : Bool). cond (b && nat_lt n (length jobs)) 1 0) (le-leb 0 n (omega arith)))
+
+    at : AreResultsOf cells jobs rules (λ n. nat_lt n (length jobs)) xs → (length (tickets xs) ≡ length jobs - 0) × ((i : ℕ) → i < length (tickets xs) → get_or (tickets xs) i 0 ≡ 0 + i)
+        → AreResults cells jobs rules xs
     at results places = record {
       count = omega (arith, places.0, length_tickets xs);
       each = λ ticket d lt.
-        let below : ticket < length xs = omega (arith, lt, places.0, length_tickets xs) in
-        let from_0 : 0 + ticket ≡ ticket = omega arith in
-        let is : (get_or xs ticket d).ticket ≡ ticket =
+          let below : ticket < length xs = omega (arith, lt, places.0, length_tickets xs) in
+          let from_0 : 0 + ticket ≡ ticket = omega arith in
+          let is : (get_or xs ticket d).ticket ≡ ticket =
           sym (get_or-map (λ (worked : WorkedView). worked.ticket) xs ticket d 0 below) ∙ places.1 ticket (omega (arith, below, length_tickets xs)) ∙ from_0 in
-        subst (λ (k : ℕ). IsResultOf cells (get_or jobs k []) rules k (get_or xs ticket d)) is (results.each ticket d below).result;
+          subst (λ (k : ℕ). IsResultOf cells (get_or jobs k []) rules k (get_or xs ticket d)) is (results.each ticket d below).result;
     }
-    by : AreResultsOf cells jobs rules are xs → AreResults cells jobs rules xs
+
+    by : AreResultsOf cells jobs rules (λ n. nat_lt n (length jobs)) xs → AreResults cells jobs rules xs
     by results = at results (in_place (length jobs) 0 (tickets xs) (tickets_up xs up) (all_once results))
 
 -- a ticket more that is ready
@@ -138,10 +139,13 @@ ready_more whole left now tasks task ready parted n =
   where
     list : List ℕ
     list = map (λ (task : Task). task.ticket) tasks
+
     counted : count_by (λ ticket. ticket == n) (list ++ task.ticket ∷ []) ≡ count_by (λ ticket. ticket == n) list + (0 + cond (task.ticket == n) 1 0)
     counted = sum_by-append (λ (ticket : ℕ). cond (ticket == n) 1 0) list (task.ticket ∷ [])
+
     same : (n == task.ticket) ≡ (task.ticket == n)
     same = grind arith
+
     one : cond (left n) 1 0 ≡ cond (task.ticket == n) 1 0 + cond (now n) 1 0
     one = parted n ∙ ap (λ (b : Bool). cond b 1 0 + cond (now n) 1 0) same
 

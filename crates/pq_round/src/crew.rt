@@ -1,4 +1,4 @@
-ghost use Rattle.std.specs.Prelude.{◌≡◌, ◌*◌, [], ◌++◌, ◌<◌, ◌≤◌, length, map, nat_lt, IfOk, All, IsPermutation, vec_capacity};
+ghost use Rattle.std.specs.Prelude.{◌≡◌, ◌*◌, [], ◌++◌, ◌<◌, ◌≤◌, length, map, IfOk, All, IsPermutation, vec_capacity};
 ghost use Rattle.std.specs.List.Sorted.{IsNonDecreasingBy};
 ghost use Rattle.std.specs.Thread.{IsSync};
 ghost use Rattle.pq_limits.specs.declared.TheConstants.{MAX_SEGMENT};
@@ -11,9 +11,9 @@ use crate::gate::WorkGate;
 use crate::share::Share;
 use pq_array::GateArray;
 use pq_board::Jobs;
+use pq_list::OutOfMemory;
 use pq_oracle::{Worked, WorkedList};
 use pq_rules::Rules;
-use pq_list::OutOfMemory;
 use std::alloc::Global;
 use std::thread::{Threads, join_mut};
 
@@ -61,7 +61,10 @@ fn work_both<'r, R: Threads + Sync, G: WorkGate>(
     shop: &Shop<'_, 'r, G>,
     near: &mut Share,
     far: &mut Share,
-) -> (Result<Vec<Worked<'r>>, OutOfMemory>, Result<Vec<Worked<'r>>, OutOfMemory>)
+) -> (
+    Result<Vec<Worked<'r>>, OutOfMemory>,
+    Result<Vec<Worked<'r>>, OutOfMemory>,
+)
     requires near_jobs { near.old.jobs ≡ length shop.now.jobs.now }
     requires far_jobs { far.old.jobs ≡ length shop.now.jobs.now }
     requires short { All (λ places. length places ≤ MAX_SEGMENT) shop.now.jobs.now }
@@ -155,10 +158,7 @@ fn work<'r, G: WorkGate>(shop: &Shop<'_, 'r, G>, task: Task) -> Worked<'r>
 }
 
 /// The results of two shares as one list.
-fn joined<'r>(
-    near: Vec<Worked<'r>>,
-    far: Vec<Worked<'r>>,
-) -> Result<Vec<Worked<'r>>, OutOfMemory>
+fn joined<'r>(near: Vec<Worked<'r>>, far: Vec<Worked<'r>>) -> Result<Vec<Worked<'r>>, OutOfMemory>
     ensures { IfOk result (λ list. list.items ≡ near.entry.items ++ far.entry.items) }
 {
     let mut list = near;
@@ -167,7 +167,7 @@ fn joined<'r>(
     Ok(list)
 }
 
-/// The results by their tickets.
+/// The results in the order of their tickets.
 pub fn in_order(results: Vec<Worked>) -> WorkedList
     ensures permutation { IsPermutation results.entry.items result.items }
     ensures sorted { IsNonDecreasingBy (λ worked. worked.ticket) result.items }

@@ -5,10 +5,10 @@ ghost use Rattle.pq_round.specs.Desks.{IsFreeFor};
 
 use pq_array::GateArray;
 use pq_gate::GateList;
+use pq_list::OutOfMemory;
 use pq_match::Seg;
 use pq_oracle::Worked;
 use pq_rules::Rules;
-use pq_list::OutOfMemory;
 use std::alloc::Global;
 
 /// The room in which one job is worked.

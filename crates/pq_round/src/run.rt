@@ -8,9 +8,9 @@ use crate::gate::WorkGate;
 use crate::share::Share;
 use pq_array::GateArray;
 use pq_board::Jobs;
+use pq_list::OutOfMemory;
 use pq_oracle::WorkedList;
 use pq_rules::Rules;
-use pq_list::OutOfMemory;
 use std::alloc::Global;
 use std::thread::Threads;
 
@@ -21,7 +21,7 @@ use std::thread::Threads;
 /// Of m workers, worker i works the tickets i, i + m, i + 2m and so on. It calls the gate before it works a ticket, when
 /// the room of all of its tickets is taken, and after the ticket's result is made. No worker is started that would have
 /// no ticket, so one job is worked in the caller's thread.
-#[tactic(auto, using(crate::proofs::Crewing::results_in_order))]
+
 pub fn run_round<'r, R: Threads + Sync, G: WorkGate>(
     rt: &R,
     alloc: Global,

@@ -35,7 +35,7 @@ impl Share {
     pub fn whole(jobs: u64, workers: u64) -> Share
         requires some { 0 < workers }
         requires few { jobs + workers < 2 ^ 63 }
-        ensures tickets { (n : ℕ) → is_of result n ≡ nat_lt n jobs }
+        ensures tickets { is_of result ≡ (λ n. nat_lt n jobs) }
         ensures workers { result.workers ≡ workers }
         ensures jobs { result.jobs ≡ jobs }
     {
@@ -56,6 +56,7 @@ impl Share {
     }
 
     /// Leaves the tickets of half of the workers, and answers those of the others.
+    #[tactic(auto, using(crate::proofs::Sharing::parted))]
     pub fn split(&mut self) -> Share
         requires { 1 < self.old.workers }
         ensures parted { AreParted (is_of self.old) (is_of self.new) (is_of result) }
@@ -74,6 +75,7 @@ impl Share {
     }
 
     /// Draws the next ticket of one worker, if there is one.
+    #[tactic(auto, using(crate::proofs::Sharing::drawn))]
     pub fn draw(&mut self) -> Option<u64>
         requires { self.old.workers ≡ 1 }
         ensures below { IfSome result (λ ticket. ticket < self.old.jobs) }

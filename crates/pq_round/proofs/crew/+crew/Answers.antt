@@ -14,8 +14,8 @@ work_share-returns g t c =
     let jobs = c.args.shop.now.jobs.now in
     let rules = c.args.shop.now.rules.now in
     IfOk-weaker c.joined.result (λ list. list.items ≡ near ++ far) (λ list. AreResultsOf cells jobs rules (is_of c.args.share.now) list.items)
-      (λ list is. rw is
-        (results_append cells jobs rules (is_of c.args.share.now) (is_of c.split-others.new.self) (is_of c.split-others.result) near far c.split-others.ensures.parted
-          (IfOk-at_ok (λ list. AreResultsOf cells jobs rules (is_of c.split-others.new.self) list.items) c.in_ok-near.was c.work_both-near.ensures.near)
-          (IfOk-at_ok (λ list. AreResultsOf cells jobs rules (is_of c.split-others.result) list.items) c.in_ok-far.was c.work_both-near.ensures.far)))
-      c.joined.ensures
+    (λ list is. rw is
+    (results_append cells jobs rules (is_of c.args.share.now) (is_of c.split-others.new.self) (is_of c.split-others.result) near far c.split-others.ensures.parted
+    (IfOk-at_ok (λ list. AreResultsOf cells jobs rules (is_of c.split-others.new.self) list.items) c.in_ok-near.was c.work_both-near.ensures.near)
+    (IfOk-at_ok (λ list. AreResultsOf cells jobs rules (is_of c.split-others.result) list.items) c.in_ok-far.was c.work_both-near.ensures.far)))
+    c.joined.ensures
