@@ -17,7 +17,7 @@ use Rattle.pq_loop.specs.Loops.{LoopView}
 use Rattle.pq_loop.specs.Opt.{Total, Opt, Local}
 use Rattle.pq_loop.proofs.Ending.{opt_local, opt_same, opt_bound}
 use Rattle.pq_loop.proofs.Falling.{round_falls}
-use Rattle.pq_write.specs.declared.report.Report.{Report}
+use Rattle.pq_write.specs.declared.report.ReportNumbers.{ReportNumbers}
 use Rattle.pq_write.specs.Report.{report_text}
 use Rattle.pq_generate.specs.Generated.{generated}
 use Rattle.pq_top.specs.Outputs.{with_gates, total_of, report_of, KeepsMatrix, IsOptimised, IsOptText, IsBenchText}
@@ -92,7 +92,7 @@ optimised_by w program given finished is formed opt keeps local bound = record {
 }
 
 -- the numbers of a report, where the gates that were handed on are these
-abbrev pub numbers_of : ℕ → ℕ → Finished → Report
+abbrev pub numbers_of : ℕ → ℕ → Finished → ReportNumbers
 numbers_of count fingers finished = record {
   gates_in = count;
   gates_out = length finished.gates.items;
@@ -107,7 +107,7 @@ pub reported : (w count fingers : ℕ) (gates : List Gate) (finished : Finished)
 reported w count fingers gates finished count_is fingers_are = λ i. numbers_of (count_is i) (fingers_are i) finished
 
 -- the text that is written with its report is the optimised one
-pub opt_text_by : (w count : ℕ) (text output : List ℕ) (options : Options) (p : Program) (given : List Gate) (finished : Finished) (report : Report) →
+pub opt_text_by : (w count : ℕ) (text output : List ℕ) (options : Options) (p : Program) (given : List Gate) (finished : Finished) (report : ReportNumbers) →
     given ≡ p.gates.items → count ≡ length p.gates.items → WellFormed (view p) → Reads text options (view p) →
     Opt builtin_rows w given (total_of finished) → KeepsMatrix given finished.gates.items finished.phase → Local builtin_rows w finished.gates.items →
     finished.calls ≤ length (first_fingers (length given) w) + 2 * (length given - length finished.gates.items) →
@@ -124,7 +124,7 @@ opt_text_by w count text output options p given finished report is long formed r
 }
 
 -- and so is the report on a generated program
-pub bench_text_by : (w seed qubits gates count : ℕ) (output : List ℕ) (p : Program) (given : List Gate) (finished : Finished) (report : Report) →
+pub bench_text_by : (w seed qubits gates count : ℕ) (output : List ℕ) (p : Program) (given : List Gate) (finished : Finished) (report : ReportNumbers) →
     given ≡ p.gates.items → count ≡ length p.gates.items → view p ≡ generated seed qubits gates → WellFormed (view p) →
     Opt builtin_rows w given (total_of finished) → KeepsMatrix given finished.gates.items finished.phase → Local builtin_rows w finished.gates.items →
     finished.calls ≤ length (first_fingers (length given) w) + 2 * (length given - length finished.gates.items) →

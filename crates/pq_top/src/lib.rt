@@ -20,9 +20,10 @@ mod optimise;
 mod tests;
 
 use crate::answer::{Answer, work};
-pub use crate::laws::commands_have_one_output;
+pub use crate::laws::{commands_have_one_output, workers_change_no_output};
 use crate::notes::note;
 use pq_command::UsageFault;
+pub use pq_generate::generate;
 use pq_io::{Sink, Source};
 use std::alloc::Global;
 use std::thread::Threads;
