@@ -52,6 +52,7 @@ impl From<AllocError> for Answer {
 }
 
 /// Does what the words ask for: reads the text, where the command wants one, makes the output and writes it.
+#[tactic(auto, using(crate::proofs::Working::failed_means))]
 pub fn work<S: Source, K: Sink>(
     alloc: Global,
     words: &[String],

@@ -38,6 +38,7 @@ use std::thread::Threads;
 ///
 /// The status is 0 where the command was done, 1 where `check` found a redex, 2 where the words have a fault, 3
 /// where the text is refused, 4 where the source failed, 5 where the sink failed, and 6 where memory ran out.
+#[tactic(auto, using(crate::proofs::Statuses::refused))]
 pub fn run_popqc<R: Threads + Sync, S: Source, K: Sink, N: Sink>(
     _rt: &R,
     alloc: Global,
