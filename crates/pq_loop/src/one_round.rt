@@ -1,6 +1,7 @@
 ghost use Rattle.std.specs.Prelude.{◌≡◌, ◌≤◌, ℕ, List, All, IfOk, IsTrue, length, map};
 ghost use Rattle.pq_array.specs.Cells.{live, rank};
 ghost use Rattle.pq_gaps.specs.Gaps.{ascending};
+ghost use Rattle.pq_limits.specs.Limits.{IsOmega};
 ghost use Rattle.pq_match.specs.Row.{IsSound};
 ghost use Rattle.pq_method.specs.Round.{Round};
 ghost use Rattle.pq_loop.specs.Segments.{stands, state_of, works_of, AreNumbersOf, AreMoved};
@@ -8,11 +9,13 @@ ghost use Rattle.pq_loop.specs.Segments.{stands, state_of, works_of, AreNumbersO
 use crate::segments::segments_of;
 use pq_array::GateArray;
 use pq_finger::Fingers;
+use pq_limits::MAX_GATES;
+use pq_list::OutOfMemory;
 use pq_method::Step;
 use pq_oracle::Worked;
 use pq_round::run_round;
 use pq_rules::Rules;
-use std::alloc::{AllocError, Global};
+use std::alloc::Global;
 
 /// One round: the gates of the array become those after the round. Answers the fingers after it, and its
 /// numbers. Each finger is at the place of a live gate, or at the end.
@@ -22,10 +25,9 @@ pub fn work_round(
     fingers: &Fingers,
     rules: &Rules,
     omega: u32,
-) -> Result<(Fingers, Step), AllocError>
-    requires least { 2 ≤ omega }
-    requires most { omega ≤ 1024 }
-    requires few { length array.old ≤ 1048576 }
+) -> Result<(Fingers, Step), OutOfMemory>
+    requires omega { IsOmega omega }
+    requires few { length array.old ≤ MAX_GATES }
     requires stand { All (λ place. IsTrue (stands array.old place)) fingers.now }
     ensures round { IfOk result (λ made. Round rules.now omega (state_of array.old fingers.now) (state_of array.new made.0) made.1) }
     ensures stand { IfOk result (λ made. All (λ place. IsTrue (stands array.new place)) made.0) }
@@ -48,7 +50,7 @@ pub fn work_round(
 
 /// The numbers of a round with these results, which removed so many gates.
 fn step_of(results: &[Worked], removed: u64) -> Step
-    requires { length results.now ≤ 1048576 }
+    requires { length results.now ≤ MAX_GATES }
     ensures numbers { AreNumbersOf results.now result }
     ensures removed { result.removed ≡ removed }
 {
@@ -67,7 +69,7 @@ fn step_of(results: &[Worked], removed: u64) -> Step
 }
 
 /// The fingers, each moved to the next live place, or to the end.
-fn moved_on(alloc: Global, array: &GateArray, fingers: Fingers) -> Result<Fingers, AllocError>
+fn moved_on(alloc: Global, array: &GateArray, fingers: Fingers) -> Result<Fingers, OutOfMemory>
     requires { All (λ place. place ≤ length array.now) fingers }
     ensures { IfOk result (λ moved. AreMoved array.now fingers moved) }
 {

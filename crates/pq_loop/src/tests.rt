@@ -1,9 +1,10 @@
 ghost use Rattle.std.specs.Prelude.{◌≤◌, length};
+ghost use Rattle.pq_limits.specs.Limits.{IsOmega};
 
 use crate::{Finished, Loop, Step};
 use pq_gate::{Eighths, Gate};
+use pq_list::OutOfMemory;
 use pq_rules::Rules;
-use std::alloc::AllocError;
 use std::process::Abort;
 use std::test::Fail;
 
@@ -33,7 +34,7 @@ fn has_fingers_at(
     rt: &(impl Abort + AllocGlobal),
     state: &Loop,
     want: &[u64],
-) -> Result<(), AllocError> {
+) -> Result<(), OutOfMemory> {
     let gaps = state.gaps(rt.alloc())?;
     assert!(rt; gaps.as_slice() == want, "{gaps:?}, but wanted {want:?}");
     assert_eq!(rt; state.fingers_left(), want.len() as u64);
@@ -46,10 +47,9 @@ fn opened(
     gates: &[Gate],
     omega: u32,
     want: &[u64],
-) -> Result<Loop, AllocError>
+) -> Result<Loop, OutOfMemory>
     requires few { length gates.now ≤ 16 }
-    requires least { 2 ≤ omega }
-    requires most { omega ≤ 1024 }
+    requires omega { IsOmega omega }
 {
     let rules = Rules::builtin(rt.alloc())?;
     let made = Loop::open(rt.alloc(), gates, omega, rules)?;
@@ -63,7 +63,7 @@ fn next(
     before: Loop,
     want: Step,
     gaps: &[u64],
-) -> Result<Loop, AllocError> {
+) -> Result<Loop, OutOfMemory> {
     assert!(rt; !before.is_done());
     let (after, step) = before.round(rt.alloc())?;
     assert_eq!(rt; step, want);
@@ -76,7 +76,7 @@ fn end(
     rt: &(impl Abort + AllocGlobal),
     last: Loop,
     gates: &[Gate],
-) -> Result<Finished, AllocError> {
+) -> Result<Finished, OutOfMemory> {
     assert!(rt; last.is_done());
     let left = last.finish(rt.alloc())?;
     assert!(rt; left.gates.as_slice() == gates, "{gates:?}");

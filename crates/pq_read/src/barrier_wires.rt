@@ -3,8 +3,9 @@ ghost use Rattle.pq_read.specs.After.{adjoined, adjoined_below};
 ghost use Rattle.pq_read.specs.Registers.{IsArgument};
 
 use crate::argument::Argument;
-use pq_text::MAX_PLACES;
-use std::alloc::{AllocError, Global};
+use pq_limits::MAX_PLACES;
+use pq_list::OutOfMemory;
+use std::alloc::Global;
 use std::marker::Model;
 
 /// The wires of a barrier in order of appearance, each once. Contracts see the list.
@@ -31,7 +32,7 @@ impl Model for BarrierWires {
 
 impl BarrierWires {
     /// No wires.
-    pub fn new(alloc: Global) -> Result<BarrierWires, AllocError>
+    pub fn new(alloc: Global) -> Result<BarrierWires, OutOfMemory>
         ensures { IfOk result (λ wires. wires ≡ []) }
     {
         Ok(BarrierWires {
@@ -41,7 +42,7 @@ impl BarrierWires {
     }
 
     // Appends a wire that isn't there yet.
-    fn adjoin(&mut self, wire: u32) -> Result<(), AllocError>
+    fn adjoin(&mut self, wire: u32) -> Result<(), OutOfMemory>
         requires { wire < MAX_PLACES }
         ensures { OnOk result (self.new ≡ adjoined self.old wire) }
     {
@@ -54,7 +55,7 @@ impl BarrierWires {
     }
 
     /// Appends the wires of an argument that aren't there yet.
-    pub fn adjoin_argument(&mut self, a: &Argument) -> Result<(), AllocError>
+    pub fn adjoin_argument(&mut self, a: &Argument) -> Result<(), OutOfMemory>
         requires { IsArgument a.now }
         ensures { OnOk result (self.new ≡ adjoined_below self.old a.now.first a.now.count) }
     {

@@ -15,7 +15,7 @@ use crate::refusal::{Kind, ReadError};
 use crate::registers::{Registers, is_name};
 use crate::token::{GREAT, demand, demand_end, integer, refused};
 use pq_lex::{Form, Lexer, Token};
-use pq_text::{MAX_NAME, MAX_PLACES};
+use pq_limits::{MAX_NAME, MAX_PLACES};
 use std::alloc::Global;
 
 // Whether a register of either kind has this name.

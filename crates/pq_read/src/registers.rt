@@ -13,8 +13,10 @@ use crate::refusal::{Kind, ReadError};
 use crate::token::refused;
 use crate::word::is_text;
 use pq_lex::Token;
+use pq_limits::MAX_PLACES;
+use pq_list::OutOfMemory;
 use pq_text::is_lawful_name;
-use std::alloc::{AllocError, Global};
+use std::alloc::Global;
 use std::collections::BTreeMap;
 use std::marker::Model;
 
@@ -66,13 +68,13 @@ impl Registers {
     /// How many places they have together.
     pub fn total(&self) -> u32
         ensures total { result ≡ places_of self.now }
-        ensures within { result ≤ 4096 }
+        ensures within { result ≤ MAX_PLACES }
     {
         self.total
     }
 
     /// Appends a register, whose name none of them has.
-    pub fn push(&mut self, alloc: Global, register: Register) -> Result<(), AllocError>
+    pub fn push(&mut self, alloc: Global, register: Register) -> Result<(), OutOfMemory>
         requires new { IsNew self.old (register_view register) }
         requires free { span_from 0 self.old (register_view register).name ≡ None }
         ensures { OnOk result (self.new ≡ self.old ++ register_view register ∷ []) }

@@ -12,8 +12,9 @@ use crate::registers::Registers;
 use crate::tail::Tail;
 use crate::token::{demand, demand_end, is_next, refused};
 use pq_lex::{Form, Lexer};
-use pq_text::MAX_ENTRIES;
-use std::alloc::{AllocError, Global};
+use pq_limits::MAX_ENTRIES;
+use pq_list::OutOfMemory;
+use std::alloc::Global;
 
 // The bits of a measurement, which are as many as the qubits.
 fn check_pair(a: &Argument, b: &Argument) -> Result<(), ReadError>
@@ -26,7 +27,7 @@ fn check_pair(a: &Argument, b: &Argument) -> Result<(), ReadError>
 }
 
 // Appends the measurements of the places of one argument into those of another.
-fn push_measurements(tail: &mut Tail, a: &Argument, b: &Argument) -> Result<(), AllocError>
+fn push_measurements(tail: &mut Tail, a: &Argument, b: &Argument) -> Result<(), OutOfMemory>
     requires a { IsArgument a.now }
     requires b { IsArgument b.now }
     requires same { a.now.count ≡ b.now.count }

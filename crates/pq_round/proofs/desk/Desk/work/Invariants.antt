@@ -1,6 +1,6 @@
 use Rattle.std.proofs.Common.{◌≡◌, ◌≤◌, length, take}
 use Rattle.pq_round.specs.Results.{gates_at}
-use Rattle.pq_round.proofs.run.work.Given as goal
+use Rattle.pq_round.proofs.desk.Desk.work.Given as goal
 
 abbrev pub invariant-loop-place : goal.invariant-loop-place
 invariant-loop-place l = record {

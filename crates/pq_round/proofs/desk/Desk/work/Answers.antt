@@ -2,8 +2,8 @@ use Rattle.std.proofs.Common.{arith, ◌≡◌, ◌+◌, ◌<◌, ◌++◌, ◌�
 use Rattle.std.proofs.lemmas.List.{length_push}
 use Rattle.pq_round.specs.Results.{gates_at}
 use Rattle.pq_round.proofs.Gathering.{gates_more_some, gates_more_none}
-use Rattle.pq_round.proofs.run.work.Goals as goal
-use Rattle.pq_round.proofs.run.work.Goals.{in-Some, in_default}
+use Rattle.pq_round.proofs.desk.Desk.work.Goals as goal
+use Rattle.pq_round.proofs.desk.Desk.work.Goals.{in-Some, in_default}
 
 -- a gate goes into both lists, and a tombstone into neither
 pub loop-place-preserved : goal.loop-place-preserved
