@@ -1,7 +1,7 @@
 ghost use Rattle.std.specs.Prelude.{◌≡◌, ◌≤◌, ℕ, List, All, IfOk, IsTrue, length, map};
-ghost use Rattle.pq_limits.specs.Limits.{IsOmega, AreWorkers};
 ghost use Rattle.pq_array.specs.Cells.{live, rank};
 ghost use Rattle.pq_gaps.specs.Gaps.{ascending};
+ghost use Rattle.pq_limits.specs.Limits.{AreWorkers, IsOmega};
 ghost use Rattle.pq_match.specs.Row.{IsSound};
 ghost use Rattle.pq_method.specs.Round.{Round};
 ghost use Rattle.pq_loop.specs.Segments.{stands, state_of, works_of, AreNumbersOf, AreMoved};
@@ -9,11 +9,13 @@ ghost use Rattle.pq_loop.specs.Segments.{stands, state_of, works_of, AreNumbersO
 use crate::segments::segments_of;
 use pq_array::GateArray;
 use pq_finger::Fingers;
+use pq_limits::MAX_GATES;
+use pq_list::OutOfMemory;
 use pq_method::Step;
 use pq_oracle::Worked;
 use pq_round::{WorkGate, run_round};
 use pq_rules::Rules;
-use std::alloc::{AllocError, Global};
+use std::alloc::Global;
 use std::thread::Threads;
 
 /// One round by so many workers, with the gate before and after each ticket: the gates of the array become those
@@ -28,10 +30,10 @@ pub fn work_round<R: Threads + Sync, G: WorkGate>(
     omega: u32,
     workers: u32,
     gate: &G,
-) -> Result<(Fingers, Step), AllocError>
+) -> Result<(Fingers, Step), OutOfMemory>
     requires omega { IsOmega omega }
     requires workers { AreWorkers workers }
-    requires few { length array.old ≤ 1048576 }
+    requires few { length array.old ≤ MAX_GATES }
     requires stand { All (λ place. IsTrue (stands array.old place)) fingers.now }
     ensures round { IfOk result (λ made. Round rules.now omega (state_of array.old fingers.now) (state_of array.new made.0) made.1) }
     ensures stand { IfOk result (λ made. All (λ place. IsTrue (stands array.new place)) made.0) }
@@ -63,7 +65,7 @@ pub fn work_round<R: Threads + Sync, G: WorkGate>(
 
 /// The numbers of a round with these results, which removed so many gates.
 fn step_of(results: &[Worked], removed: u64) -> Step
-    requires { length results.now ≤ 1048576 }
+    requires { length results.now ≤ MAX_GATES }
     ensures numbers { AreNumbersOf results.now result }
     ensures removed { result.removed ≡ removed }
 {
@@ -82,7 +84,7 @@ fn step_of(results: &[Worked], removed: u64) -> Step
 }
 
 /// The fingers, each moved to the next live place, or to the end.
-fn moved_on(alloc: Global, array: &GateArray, fingers: Fingers) -> Result<Fingers, AllocError>
+fn moved_on(alloc: Global, array: &GateArray, fingers: Fingers) -> Result<Fingers, OutOfMemory>
     requires { All (λ place. place ≤ length array.now) fingers }
     ensures { IfOk result (λ moved. AreMoved array.now fingers moved) }
 {

@@ -4,13 +4,13 @@ use Rattle.pq_loop.proofs.one_round.work_round.Goals as goal
 
 pub settle-requires : goal.settle-requires
 settle-requires g c =
-    cuts_in_order c.in_ok-segments.ensures.omega ((omega (arith, c.requires.omega.least)))
+    cuts_in_order c.in_ok-segments.ensures.omega (omega (arith, c.requires.omega.least))
     (found_of c.requires.stand c.places-places.ensures.rising c.in_ok-segments.ensures.segments c.in_ok-segments.ensures.fingers
     c.as_slice-results.ensures c.in_ok-worked.ensures c.as_slice.ensures.value c.in_ok-cuts.ensures)
 
 pub step_of-step-requires : goal.step_of-step-requires
 step_of-step-requires g c =
-    results_few c.in_ok-segments.ensures.omega ((omega (arith, c.requires.omega.least))) c.requires.few c.in_ok-segments.ensures.segments
+    results_few c.in_ok-segments.ensures.omega (omega (arith, c.requires.omega.least)) c.requires.few c.in_ok-segments.ensures.segments
     c.as_slice-results.ensures c.in_ok-worked.ensures
 
 pub moved_on-requires : goal.moved_on-requires
@@ -22,7 +22,7 @@ moved_on-requires g c =
 
 pub returns-clause-round : goal.returns-clause-round
 returns-clause-round g c =
-    round_is c.in_ok-segments.ensures.omega ((omega (arith, c.requires.omega.least)))
+    round_is c.in_ok-segments.ensures.omega (omega (arith, c.requires.omega.least))
     (found_of c.requires.stand c.places-places.ensures.rising c.in_ok-segments.ensures.segments c.in_ok-segments.ensures.fingers
     c.as_slice-results.ensures c.in_ok-worked.ensures c.as_slice.ensures.value c.in_ok-cuts.ensures)
     (record {
