@@ -118,7 +118,7 @@ lowered_lt plan view ticket place node rest stands held there next = by (contain
         )
 
 -- how many have the property, as a weight
-counted_weigh : (P : ℕ → Type 0) (f : ℕ → ℕ) → ((x : ℕ) → P x → f x ≡ 1) → ((x : ℕ) → (P x → ⊥) → f x ≡ 0) → (xs : List ℕ) (n : ℕ) → HowMany P xs n → weigh f xs ≡ n
+pub counted_weigh : (P : ℕ → Type 0) (f : ℕ → ℕ) → ((x : ℕ) → P x → f x ≡ 1) → ((x : ℕ) → (P x → ⊥) → f x ≡ 0) → (xs : List ℕ) (n : ℕ) → HowMany P xs n → weigh f xs ≡ n
 counted_weigh P f when unless [] _ none = refl
 counted_weigh P f when unless (x ∷ xs) _ (one_more _ _ n here many) = omega (arith, when x here, counted_weigh P f when unless xs n many)
 counted_weigh P f when unless (x ∷ xs) _ (no_more _ _ n out many) = omega (arith, unless x out, counted_weigh P f when unless xs n many)

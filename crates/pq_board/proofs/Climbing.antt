@@ -83,7 +83,7 @@ climb_allowed plan slots id me ticket place node old same low held early there f
     lower_allowed plan slots id me ticket place node (halves (node / 2) (node / 2)) is.plan_is low is.held is.early is.there is.next
 
 -- the lists joined hold what one of them holds
-contains_concat : (lists : List (List ℕ)) (k : ℕ) (x : ℕ) → k < length lists → Contains (get_or lists k []) x → Contains (concat lists) x
+pub contains_concat : (lists : List (List ℕ)) (k : ℕ) (x : ℕ) → k < length lists → Contains (get_or lists k []) x → Contains (concat lists) x
 contains_concat [] k x lt there = absurd (omega arith)
 contains_concat (list ∷ lists) zero x lt there = Contains-append_left list (concat lists) x there
 contains_concat (list ∷ lists) (suc k) x lt there = Contains-append_right list (concat lists) x (contains_concat lists k x (omega arith) there)
