@@ -3,7 +3,7 @@ ghost use Rattle.pq_array.specs.Cells.{live};
 ghost use Rattle.pq_gate.specs.Circuit.{IsCircuit};
 ghost use Rattle.pq_gate.specs.Matrix.{Same};
 ghost use Rattle.pq_gaps.specs.Gaps.{first_fingers};
-ghost use Rattle.pq_limits.specs.Limits.{IsOmega};
+ghost use Rattle.pq_limits.specs.Limits.{AreWorkers, IsOmega};
 ghost use Rattle.pq_method.specs.Round.{Round};
 ghost use Rattle.pq_method.specs.Opt.{first_state, Local};
 ghost use Rattle.pq_loop.specs.Loops.{IsCovered};
@@ -17,9 +17,11 @@ use pq_gate::{Gate, GateList};
 use pq_limits::MAX_GATES;
 use pq_list::OutOfMemory;
 use pq_method::Step;
+use pq_round::WorkGate;
 use pq_rules::Rules;
 use std::alloc::Global;
 use std::marker::Model;
+use std::thread::Threads;
 
 /// Rounds over the gates of a circuit. Contracts see the state, which is the gates that are left and the
 /// fingers as gaps; the window length Omega and the rules; and the rounds, the oracle's calls and the phase
@@ -75,7 +77,12 @@ impl Loop {
     /// The loop before its first round: the first fingers stand at each multiple of Omega that is less than
     /// the number of gates, and overlook nothing. Omega is 2 to 1,024, and there are at most 1,048,576 gates.
     #[tactic(auto, using(crate::proofs::Kept::opened_state))]
-    pub fn open(alloc: Global, gates: &[Gate], omega: u32, rules: Rules) -> Result<Loop, OutOfMemory>
+    pub fn open(
+        alloc: Global,
+        gates: &[Gate],
+        omega: u32,
+        rules: Rules,
+    ) -> Result<Loop, OutOfMemory>
         requires omega { IsOmega omega }
         requires few { length gates.now ≤ MAX_GATES }
         ensures state { IfOk result (λ made. made.state ≡ first_state omega gates.now) }
@@ -117,9 +124,18 @@ impl Loop {
     }
 
     /// One round, while there is a finger: the segments of the selected fingers are given to the oracle, its answers
-    /// are put in their places, and the fingers are settled and moved. Where memory is refused, the loop is spent.
-    pub fn round(self, alloc: Global) -> Result<(Loop, Step), OutOfMemory>
-        requires { 0 < length self.state.fingers }
+    /// are put in their places, and the fingers are settled and moved. So many workers, 1 to 64, give them to the oracle,
+    /// as `run_round` of `pq_round` says; the gate is called before and after each. Where memory is refused, the loop is
+    /// spent.
+    pub fn round<R: Threads + Sync, G: WorkGate>(
+        self,
+        rt: &R,
+        alloc: Global,
+        workers: u32,
+        gate: &G,
+    ) -> Result<(Loop, Step), OutOfMemory>
+        requires going { 0 < length self.state.fingers }
+        requires workers { AreWorkers workers }
         ensures round { IfOk result (λ made. Round self.rules self.omega self.state made.0.state made.1) }
         ensures settings { IfOk result (λ made. (made.0.omega ≡ self.omega) × (made.0.rules ≡ self.rules) × (made.0.first_fingers ≡ self.first_fingers)) }
         ensures rounds { IfOk result (λ made. made.0.rounds ≡ self.rounds + 1) }
@@ -141,7 +157,9 @@ impl Loop {
             phase,
             first_fingers,
         } = self;
-        let (fingers, step) = work_round(alloc, &mut array, &fingers, &rules, omega)?;
+        let (fingers, step) = work_round(
+            rt, alloc, &mut array, &fingers, &rules, omega, workers, gate,
+        )?;
         let after = Loop {
             array,
             fingers,

@@ -1,7 +1,7 @@
 ghost use Rattle.std.specs.Prelude.{◌≡◌, ◌≤◌, ℕ, List, All, IfOk, IsTrue, length, map};
 ghost use Rattle.pq_array.specs.Cells.{live, rank};
 ghost use Rattle.pq_gaps.specs.Gaps.{ascending};
-ghost use Rattle.pq_limits.specs.Limits.{IsOmega};
+ghost use Rattle.pq_limits.specs.Limits.{AreWorkers, IsOmega};
 ghost use Rattle.pq_match.specs.Row.{IsSound};
 ghost use Rattle.pq_method.specs.Round.{Round};
 ghost use Rattle.pq_loop.specs.Segments.{stands, state_of, works_of, AreNumbersOf, AreMoved};
@@ -13,20 +13,26 @@ use pq_limits::MAX_GATES;
 use pq_list::OutOfMemory;
 use pq_method::Step;
 use pq_oracle::Worked;
-use pq_round::run_round;
+use pq_round::{WorkGate, run_round};
 use pq_rules::Rules;
 use std::alloc::Global;
+use std::thread::Threads;
 
-/// One round: the gates of the array become those after the round. Answers the fingers after it, and its
-/// numbers. Each finger is at the place of a live gate, or at the end.
-pub fn work_round(
+/// One round by so many workers, with the gate before and after each ticket: the gates of the array become those
+/// after the round. Answers the fingers after it, and its numbers. Each finger is at the place of a live gate, or at
+/// the end.
+pub fn work_round<R: Threads + Sync, G: WorkGate>(
+    rt: &R,
     alloc: Global,
     array: &mut GateArray,
     fingers: &Fingers,
     rules: &Rules,
     omega: u32,
+    workers: u32,
+    gate: &G,
 ) -> Result<(Fingers, Step), OutOfMemory>
     requires omega { IsOmega omega }
+    requires workers { AreWorkers workers }
     requires few { length array.old ≤ MAX_GATES }
     requires stand { All (λ place. IsTrue (stands array.old place)) fingers.now }
     ensures round { IfOk result (λ made. Round rules.now omega (state_of array.old fingers.now) (state_of array.new made.0) made.1) }
@@ -37,7 +43,16 @@ pub fn work_round(
     let _places = fingers.places();
     let _rows = rules.count();
     let segments = segments_of(alloc, array, fingers, omega)?;
-    let worked = run_round(alloc, array, &segments.jobs, rules, omega)?;
+    let worked = run_round(
+        rt,
+        alloc,
+        array,
+        &segments.jobs,
+        rules,
+        omega,
+        workers,
+        gate,
+    )?;
     let results = worked.as_slice();
     let cuts = segments.cuts(alloc, array, results)?;
     let settled = fingers.settle(alloc, cuts.as_slice())?;

@@ -4,9 +4,11 @@ ghost use Rattle.pq_limits.specs.Limits.{IsOmega};
 use crate::{Finished, Loop, Step};
 use pq_gate::{Eighths, Gate};
 use pq_list::OutOfMemory;
+use pq_round::OpenGate;
 use pq_rules::Rules;
 use std::process::Abort;
 use std::test::Fail;
+use std::thread::Threads;
 
 fn h(wire: u32) -> Gate {
     Gate::H { wire }
@@ -57,15 +59,15 @@ fn opened(
     Ok(made)
 }
 
-// Makes a round. These numbers are wanted, and these gaps of the fingers after it.
+// Makes a round with four workers. These numbers are wanted, and these gaps of the fingers after it.
 fn next(
-    rt: &(impl Abort + AllocGlobal),
+    rt: &(impl Abort + AllocGlobal + Threads + Sync),
     before: Loop,
     want: Step,
     gaps: &[u64],
 ) -> Result<Loop, OutOfMemory> {
     assert!(rt; !before.is_done());
-    let (after, step) = before.round(rt.alloc())?;
+    let (after, step) = before.round(rt, rt.alloc(), 4, &OpenGate)?;
     assert_eq!(rt; step, want);
     has_fingers_at(rt, &after, gaps)?;
     Ok(after)

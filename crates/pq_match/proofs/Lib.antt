@@ -1,6 +1,7 @@
 pub mod Moving
 mod FirstOfOrder
 mod FirstOfSettled
+pub mod RenamedWires
 pub mod RewritingWires
 pub mod OneFirst
 pub mod SomeFirst

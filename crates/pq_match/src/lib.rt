@@ -10,7 +10,6 @@ mod search;
 mod segment;
 #[cfg(test)]
 mod tests;
-mod wires;
 
 pub use redex::Redex;
 pub use search::{find_first, find_within};
