@@ -1,7 +1,7 @@
-use Rattle.std.proofs.Common.{◌≡◌, ℕ, List, ◌+◌, ◌-◌, ◌<◌, ◌≤◌, length, get_or, sym, ap, ◌∙◌, subst, arith}
+use Rattle.std.proofs.Common.{◌≡◌, ℕ, List, ◌+◌, ◌-◌, length, get_or, ap, ◌∙◌, subst, arith}
 use Rattle.std.specs.Mem.Slots.{slots_items}
 use Rattle.pq_board.specs.Law.{leaves, stake, late}
-use Rattle.pq_board.specs.Steps.{AreWhole, HoldAll, early}
+use Rattle.pq_board.specs.Steps.{AreWhole, early}
 use Rattle.pq_board.specs.declared.plan.Plan.{Plan}
 use Rattle.pq_board.specs.declared.plan.View.{View}
 use Rattle.pq_board.proofs.Closing.{Closes, closes}
