@@ -7,10 +7,10 @@ mod rewrite;
 #[cfg(test)]
 mod rewriting_tests;
 mod search;
+mod seek;
 mod segment;
 #[cfg(test)]
 mod tests;
-mod wires;
 
 pub use redex::Redex;
 pub use search::{find_first, find_within};

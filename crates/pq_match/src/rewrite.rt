@@ -14,7 +14,7 @@ ghost use Rattle.pq_match.specs.Wires.{first_wire, second_wire};
 use crate::laws::rewriting_keeps_the_matrix;
 use crate::redex::Redex;
 use crate::segment::Seg;
-use crate::wires::wires_of;
+use pq_links::wires_of;
 use pq_gate::Gate;
 use pq_rules::{Row, Rules};
 

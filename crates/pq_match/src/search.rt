@@ -7,7 +7,7 @@ ghost use Rattle.pq_match.specs.Search.{AreApart, IsAlike, AreAlike, IsFitting, 
 
 use crate::redex::Redex;
 use crate::segment::Seg;
-use crate::wires::wires_of;
+use pq_links::wires_of;
 use pq_gate::{Eighths, Gate, commutes};
 use pq_rules::Rules;
 

@@ -1,5 +1,5 @@
 ghost use Rattle.std.specs.Prelude.{◌≡◌};
-ghost use Rattle.pq_match.specs.Wires.{first_wire, second_wire};
+ghost use Rattle.pq_links.specs.Wires.{first_wire, second_wire};
 
 use pq_gate::Gate;
 
