@@ -79,10 +79,10 @@ next_live cells first places run i lt =
 halves_below : (n v : ℕ) → HalvesTo n v → v ≤ n
 halves_below n v (times, is) = omega (arith, shr_le n times)
 
--- the words while the places are lowered one after another
+-- the words while the places are lowered one after another, and word 0, which stays
 pub record Lowers {A : Type 0} (cells : List (Option A)) (old words : List ℕ) (places : List ℕ) (i : ℕ) : Type 0 where
   pub size : length words ≡ length old
-  pub unused : get_or words 0 0 ≡ 0
+  pub unused : get_or words 0 0 ≡ get_or old 0 0
   pub spans : Spans (length old / 2) (cleared cells (take i places)) words
 
 -- none so far
@@ -90,7 +90,7 @@ pub lowers : {A : Type 0} (cells : List (Option A)) (old : List ℕ) (places : L
 lowers cells old places tree = by (counting cells old tree)
   where
     by : Counting cells old → Lowers cells old old places 0
-    by t = record { size = refl; unused = tree.unused; spans = rw (← t.half) at t.spans }
+    by t = record { size = refl; unused = refl; spans = rw (← t.half) at t.spans }
 
 -- a live place among them is a place of the tree
 inside_tree : {A : Type 0} (cells : List (Option A)) (old : List ℕ) (t : Counting cells old) (place : ℕ) → IsLive cells place → place < 2 ^ t.height
@@ -150,7 +150,6 @@ tree_replaced {A} {cells} {new} {old} {words} places output first tree run is si
         )) in
         record {
           leaves = rw (size, now.size) tree.leaves;
-          unused = now.unused;
           counts = Counts-from_Spans new words t.height (now.size ∙ t.size) (omega (arith, t.fits)) new_spans;
         }
 

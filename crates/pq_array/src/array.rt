@@ -1,10 +1,14 @@
 ghost use Rattle.std.specs.Prelude.{◌≡◌, ℕ, ◌↔◌, ◌+◌, ◌<◌, ◌≤◌, Some, None, length, map, slice_index, slice_index_or, slice_get, IsNone, IfOk, IfSome, All};
-ghost use Rattle.std.specs.List.Sorted.{IsStrictlyIncreasing};
 ghost use Rattle.pq_array.specs.Cells.{live, rank, spliced, IsLive, IsLiveRun, Replaces};
+ghost use Rattle.pq_array.specs.Tree.{IsTreeOf};
 
+use crate::WordList;
+use crate::cells::Cells;
 use crate::tree::{lower, tree_over};
 use pq_gate::Gate;
-use std::alloc::{AllocError, Global};
+use pq_limits::MAX_GATES;
+use pq_list::{OutOfMemory, crosses_threads};
+use std::alloc::Global;
 use std::marker::Model;
 
 /// Cells that each hold a gate, or are a tombstone where a gate was taken out. Contracts see the list
@@ -12,39 +16,42 @@ use std::marker::Model;
 /// cell, counted from 0; the number of cells stands for the end. Only `open` takes memory.
 #[derive(Drop)]
 pub struct GateArray {
-    cells: Vec<Option<Gate>>,
+    cells: Cells,
     words: Vec<u64>,
 }
 
 impl Model for GateArray {
-    ghost use Rattle.std.specs.Prelude.{List, Option};
+    ghost use Rattle.std.specs.Prelude.{◌≡◌, List, Option, slice_index};
     ghost use Rattle.pq_gate.specs.declared.gate.Gate.{Gate};
     ghost use Rattle.pq_array.specs.Tree.{IsTreeOf};
 
     ghost Value = { List (Option Gate) };
 
-    ghost view = { λ a. a.cells.items };
+    ghost view = { λ a. a.cells };
 
-    ghost invariant = { λ a. IsTreeOf a.cells.items a.words.items };
+    ghost invariant = { λ a. IsTreeOf a.cells a.words.items × (slice_index a.words.items 0 ≡ 0) };
 }
 
 impl GateArray {
     /// The array with one live cell for each of at most 1,048,576 gates.
-    pub fn open(alloc: Global, gates: &[Gate]) -> Result<GateArray, AllocError>
-        requires { length gates.now ≤ 1048576 }
+    pub fn open(alloc: Global, gates: &[Gate]) -> Result<GateArray, OutOfMemory>
+        requires { length gates.now ≤ MAX_GATES }
         ensures cells { IfOk result (λ array. array ≡ map (λ gate. Some gate) gates.now) }
         ensures live { IfOk result (λ array. live array ≡ gates.now) }
     {
         let cells = live_cells(alloc, gates)?;
         let words = tree_over(alloc, &cells)?;
-        Ok(GateArray { cells, words })
+        Ok(GateArray {
+            cells: Cells::of(cells),
+            words,
+        })
     }
 
     /// The number of cells.
     pub fn cells(&self) -> u64
         ensures { result ≡ length self.now }
     {
-        self.cells.len() as u64
+        self.cells.count()
     }
 
     /// The number of live cells.
@@ -58,11 +65,7 @@ impl GateArray {
     pub fn gate_at(&self, place: u64) -> Option<Gate>
         ensures { result ≡ slice_index_or self.now place None }
     {
-        if place < self.cells() {
-            self.cells[place as usize]
-        } else {
-            None
-        }
+        self.cells.gate_at(place)
     }
 
     /// The number of live cells before this place.
@@ -146,25 +149,39 @@ impl GateArray {
         for place in &places[output.len()..] {
             lower(&mut self.words, *place as usize);
         }
-        put(&mut self.cells, places, output);
+        self.cells.replace(places, output);
+    }
+
+    /// The cells alone, and the words of the tree over them. Word 0 is 0. It copies none.
+    pub fn split_words(self) -> (Cells, WordList)
+        ensures cells { result.0 ≡ self }
+        ensures words { IsTreeOf self result.1.items }
+        ensures unused { slice_index result.1.items 0 ≡ 0 }
+    {
+        let GateArray { cells, words } = self;
+        (cells, WordList::of(words))
+    }
+
+    /// The array of these cells with the words of the tree over them, whatever word 0 is: it becomes 0.
+    /// It copies none.
+    pub fn rejoin(cells: Cells, words: WordList) -> GateArray
+        requires { IsTreeOf cells words.items }
+        ensures { result ≡ cells }
+    {
+        let mut words = words.into_vec();
+        words[0] = 0;
+        GateArray { cells, words }
     }
 }
 
 /// One live cell for each gate.
-fn live_cells(alloc: Global, gates: &[Gate]) -> Result<Vec<Option<Gate>>, AllocError>
+fn live_cells(alloc: Global, gates: &[Gate]) -> Result<Vec<Option<Gate>>, OutOfMemory>
     ensures { IfOk result (λ cells. cells.items ≡ map (λ gate. Some gate) gates.now) }
 {
     gates.iter().map(|gate| Some(*gate)).collect(alloc)
 }
 
-/// Puts the output at the first of these places, in order, and tombstones at the others.
-fn put(cells: &mut [Option<Gate>], places: &[u64], output: &[Gate])
-    requires inside { All (λ place. place < length cells.old) places.now }
-    requires in_order { IsStrictlyIncreasing places.now }
-    requires no_longer { length output.now ≤ length places.now }
-    ensures { Replaces cells.old cells.new places.now output.now }
-{
-    for (number, place) in places.iter().enumerate() {
-        cells[*place as usize] = output.get(number).copied();
-    }
+/// An array crosses threads.
+fn array_crosses_threads() {
+    crosses_threads::<GateArray>();
 }

@@ -3,12 +3,14 @@
 #![tactic(auto)]
 
 mod array;
+mod cells;
 mod laws;
 #[cfg(test)]
 mod tests;
 mod tree;
 
 pub use array::GateArray;
+pub use cells::Cells;
 pub use laws::{rank_laws, replacement_law, run_law, tree_laws};
 use pq_list::RoomList;
 

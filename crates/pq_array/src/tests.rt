@@ -93,6 +93,56 @@ fn three_of_five_gates_are_replaced_by_one(rt: HostRuntime) -> Result<(), Fail> 
     Ok(())
 }
 
+/// Compares the words of the tree with these.
+fn words_are(rt: &impl Abort, array: GateArray, want: &[u64]) {
+    let (_cells, words) = array.split_words();
+    assert!(rt; words.as_slice() == want);
+}
+
+#[test]
+fn the_words_count_the_live_gates_below_each_node(rt: HostRuntime) -> Result<(), Fail> {
+    let five = GateArray::open(rt.alloc(), &gates(rt.alloc(), 5)?)?;
+    words_are(&rt, five, &[0, 5, 4, 1, 2, 2, 1, 0, 1, 1, 1, 1, 1, 0, 0, 0]);
+
+    let mut array = GateArray::open(rt.alloc(), &gates(rt.alloc(), 5)?)?;
+    let places = run_of(rt.alloc(), &array, 1, 3)?;
+    array.replace(&places, &[numbered(9)]);
+    words_are(
+        &rt,
+        array,
+        &[0, 3, 2, 1, 2, 0, 1, 0, 1, 1, 0, 0, 1, 0, 0, 0],
+    );
+    Ok(())
+}
+
+#[test]
+fn an_array_comes_back_from_its_cells_and_words(rt: HostRuntime) -> Result<(), Fail> {
+    let (cells, words) = GateArray::open(rt.alloc(), &gates(rt.alloc(), 3)?)?.split_words();
+    assert_eq!(rt; cells.gate_at(2), Some(numbered(2)));
+    assert_eq!(rt; cells.gate_at(3), None);
+    let mut words = words.into_vec();
+    words[0] = 5;
+    let array = GateArray::rejoin(cells, WordList::of(words));
+    holds(&rt, &array, &gates(rt.alloc(), 3)?);
+    words_are(&rt, array, &[0, 3, 2, 1, 1, 1, 1, 0]);
+    Ok(())
+}
+
+#[test]
+fn cells_alone_take_a_replacement(rt: HostRuntime) -> Result<(), Fail> {
+    let array = GateArray::open(rt.alloc(), &gates(rt.alloc(), 5)?)?;
+    let places = run_of(rt.alloc(), &array, 1, 3)?;
+    let (mut cells, _words) = array.split_words();
+    cells.replace(&places, &[numbered(9)]);
+    for (place, want) in [Some(0), Some(9), None, None, Some(4), None]
+        .iter()
+        .enumerate()
+    {
+        assert_eq!(rt; cells.gate_at(place as u64), want.map(numbered));
+    }
+    Ok(())
+}
+
 #[test]
 fn an_array_may_have_no_gate_or_one(rt: HostRuntime) -> Result<(), Fail> {
     let mut none = GateArray::open(rt.alloc(), &[])?;

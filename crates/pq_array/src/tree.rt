@@ -5,12 +5,15 @@ ghost use Rattle.pq_array.specs.Tree.{IsTreeOf};
 ghost use Rattle.std.specs.Int.{IsNextPowerOfTwo};
 
 use pq_gate::Gate;
-use std::alloc::{AllocError, Global};
+use pq_limits::MAX_GATES;
+use pq_list::OutOfMemory;
+use std::alloc::Global;
 
 /// The words of the tree over these cells.
-pub fn tree_over(alloc: Global, cells: &[Option<Gate>]) -> Result<Vec<u64>, AllocError>
-    requires { length cells.now ≤ 1048576 }
-    ensures { IfOk result (λ words. IsTreeOf cells.now words.items) }
+pub fn tree_over(alloc: Global, cells: &[Option<Gate>]) -> Result<Vec<u64>, OutOfMemory>
+    requires { length cells.now ≤ MAX_GATES }
+    ensures tree { IfOk result (λ words. IsTreeOf cells.now words.items) }
+    ensures unused { IfOk result (λ words. slice_index words.items 0 ≡ 0) }
 {
     let width = cells.len().next_power_of_two();
     let mut words = vec![in alloc; 0; 2 * width]?;
@@ -23,7 +26,8 @@ fn count_up(words: &mut [u64], cells: &[Option<Gate>])
     requires leaves { IsNextPowerOfTwo (length cells.now) (length words.old / 2) }
     requires pairs { length words.old ≡ 2 * (length words.old / 2) }
     requires unused { slice_index words.old 0 ≡ 0 }
-    ensures { IsTreeOf cells.now words.new }
+    ensures tree { IsTreeOf cells.now words.new }
+    ensures unused { slice_index words.new 0 ≡ 0 }
 {
     let width = words.len() / 2;
     for node in (1..words.len()).rev() {

@@ -50,6 +50,10 @@ joined_from from places (end ∷ ends) are =
 pub joined : (places ends : List ℕ) → AreEnds 0 places ends → concat (lists_from 0 places ends) ≡ places
 joined places ends are = joined_from 0 places ends are
 
+-- where the places rise, the lists joined do
+pub joined_rise : (places ends : List ℕ) → AreEnds 0 places ends → IsStrictlyIncreasing places → IsStrictlyIncreasing (concat (lists_from 0 places ends))
+joined_rise places ends are rises = rw (joined places ends are) rises
+
 -- with more places, and their end
 pub ends_more : (from : ℕ) (places more ends : List ℕ) (last : ℕ) → last ≡ length (places ++ more) → AreEnds from places ends
     → AreEnds from (places ++ more) (ends ++ last ∷ [])

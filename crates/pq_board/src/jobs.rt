@@ -1,13 +1,12 @@
-ghost use Rattle.std.specs.Prelude.{◌≡◌, ◌<◌, ◌≤◌, [], ◌∷◌, ◌++◌, length, OnOk, OnErr, slice_index, slice_index_or};
+ghost use Rattle.std.specs.Prelude.{◌≡◌, ◌<◌, ◌≤◌, [], ◌∷◌, ◌++◌, length, All, OnOk, OnErr, slice_index, slice_index_or};
 ghost use Rattle.std.specs.List.{concat};
 ghost use Rattle.std.specs.List.Sorted.{IsStrictlyIncreasing};
 ghost use Rattle.pq_board.specs.Jobs.{lists_from};
 
-use std::alloc::{AllocError, Global};
+use pq_limits::MAX_JOBS;
+use pq_list::{OutOfMemory, crosses_threads};
+use std::alloc::Global;
 use std::marker::Model;
-
-/// The most jobs that there are.
-pub const MAX_JOBS: u64 = 1_048_576;
 
 /// Jobs: at most 1,048,576 lists of places, strictly increasing when they are read in order, so that no
 /// place stands twice. A job may be empty. Contracts see the list of the lists.
@@ -22,13 +21,14 @@ pub struct Jobs {
 impl Model for Jobs {
     ghost use Rattle.std.specs.Prelude.{ℕ, ◌≤◌, List, length};
     ghost use Rattle.std.specs.List.Sorted.{IsStrictlyIncreasing};
+    ghost use Rattle.pq_limits.specs.declared.TheConstants.{MAX_JOBS};
     ghost use Rattle.pq_board.specs.Jobs.{lists_from, AreEnds};
 
     ghost Value = { List (List ℕ) };
 
     ghost view = { λ a. lists_from 0 a.places.items a.ends.items };
 
-    ghost invariant = { λ a. AreEnds 0 a.places.items a.ends.items × IsStrictlyIncreasing a.places.items × (length a.ends.items ≤ 1048576) };
+    ghost invariant = { λ a. AreEnds 0 a.places.items a.ends.items × IsStrictlyIncreasing a.places.items × (length a.ends.items ≤ MAX_JOBS) };
 }
 
 impl Jobs {
@@ -44,8 +44,9 @@ impl Jobs {
 
     /// Adds a job behind the others. Where memory is refused, the jobs are as they were.
     #[tactic(auto, using(crate::proofs::Listing::ends_more, crate::proofs::Listing::lists_more, crate::proofs::Listing::joined, crate::proofs::Listing::length_lists))]
-    pub fn add(&mut self, places: &[u64]) -> Result<(), AllocError>
-        requires rising { IsStrictlyIncreasing (concat self.old ++ places.now) }
+    pub fn add(&mut self, places: &[u64]) -> Result<(), OutOfMemory>
+        requires rising { IsStrictlyIncreasing places.now }
+        requires behind { All (λ earlier. All (λ place. earlier < place) places.now) (concat self.old) }
         requires few { length self.old < MAX_JOBS }
         ensures added { OnOk result (self.new ≡ self.old ++ places.now ∷ []) }
         ensures unchanged { OnErr result (self.new ≡ self.old) }
@@ -57,10 +58,11 @@ impl Jobs {
     }
 
     /// How many jobs there are.
-    #[tactic(auto, using(crate::proofs::Listing::length_lists))]
+    #[tactic(auto, using(crate::proofs::Listing::length_lists, crate::proofs::Listing::joined_rise))]
     pub fn count(&self) -> u64
         ensures count { result ≡ length self.now }
         ensures few { result ≤ MAX_JOBS }
+        ensures rising { IsStrictlyIncreasing (concat self.now) }
     {
         self.ends.len() as u64
     }
@@ -85,4 +87,9 @@ fn start_of(ends: &[u64], job: usize) -> u64
     ensures { result ≡ slice_index (0 ∷ ends.now) job }
 {
     if job == 0 { 0 } else { ends[job - 1] }
+}
+
+/// Jobs cross threads.
+fn jobs_cross_threads() {
+    crosses_threads::<Jobs>();
 }

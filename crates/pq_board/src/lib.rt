@@ -5,4 +5,5 @@ mod jobs;
 #[cfg(test)]
 mod tests;
 
-pub use jobs::{Jobs, MAX_JOBS};
+pub use jobs::Jobs;
+pub use pq_limits::MAX_JOBS;

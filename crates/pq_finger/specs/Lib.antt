@@ -1,4 +1,4 @@
-pub mod Gaps
+pub use Rattle.pq_gaps.specs.Gaps
 pub mod Ranks
 pub mod Selecting
 pub mod Settled

@@ -1,6 +1,6 @@
 ghost use Rattle.std.specs.Prelude.{◌≡◌, ◌<◌, ◌≤◌, All, IfOk, map, length, slice_index};
 ghost use Rattle.std.specs.List.Sorted.{IsNonDecreasing, IsStrictlyIncreasing};
-ghost use Rattle.pq_finger.specs.Gaps.{first_fingers, selected, ascending};
+ghost use Rattle.pq_gaps.specs.Gaps.{first_fingers, selected, ascending};
 ghost use Rattle.pq_finger.specs.Settled.{settled, AreInOrder};
 
 use crate::cut::Cut;

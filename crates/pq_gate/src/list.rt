@@ -1,8 +1,8 @@
-ghost use Rattle.std.specs.Prelude.{◌≡◌, ◌^◌, ◌<◌, [], ◌∷◌, ◌++◌, length, IfOk, vec_len};
+ghost use Rattle.std.specs.Prelude.{◌≡◌, ◌^◌, ◌<◌, ◌≤◌, [], ◌∷◌, ◌++◌, length, IfOk, vec_len, vec_capacity};
 
 use crate::gate::Gate;
-use pq_list::RoomList;
-use std::alloc::{AllocError, Global};
+use pq_list::{OutOfMemory, RoomList, crosses_threads};
+use std::alloc::Global;
 use std::marker::Model;
 
 /// A list of gates with the room that was asked for, less than 2^32. Contracts see both, as
@@ -26,7 +26,7 @@ impl Model for GateList {
 
 impl GateList {
     /// An empty list with room for `room` gates. The room is taken here, once.
-    pub fn with_room(alloc: Global, room: u32) -> Result<GateList, AllocError>
+    pub fn with_room(alloc: Global, room: u32) -> Result<GateList, OutOfMemory>
         ensures items { IfOk result (λ made. made.items ≡ []) }
         ensures room { IfOk result (λ made. made.room ≡ room) }
     {
@@ -67,6 +67,20 @@ impl GateList {
     {
         self.gates.as_slice()
     }
+
+    /// The gates, in the vector in which they stand: none is copied, and no memory is taken. `of` makes it a list again.
+    pub fn into_vec(self) -> Vec<Gate>
+        ensures items { result.items ≡ self.items }
+        ensures room { self.room ≤ vec_capacity result }
+        ensures few { vec_len result < 2 ^ 32 }
+    {
+        self.gates.into_vec()
+    }
+}
+
+// A list of gates crosses threads.
+fn gates_cross_threads() {
+    crosses_threads::<GateList>();
 }
 
 #[cfg(test)]
@@ -74,7 +88,7 @@ mod tests {
     use super::*;
 
     #[test]
-    fn a_list_of_room_two_is_empty_and_takes_gates(rt: HostRuntime) -> Result<(), AllocError> {
+    fn a_list_of_room_two_is_empty_and_takes_gates(rt: HostRuntime) -> Result<(), OutOfMemory> {
         let mut list = GateList::with_room(rt.alloc(), 2)?;
         assert_eq!(rt; list.room(), 2);
         assert!(rt; list.as_slice().is_empty());

@@ -12,15 +12,12 @@ mod whole;
 pub use adapted::{ReadSource, WriteSink};
 pub use laws::{reading_is_settled, writing_is_settled};
 pub use memory::{MemSink, MemSource};
-pub use pq_list::RoomList;
+pub use pq_list::{OutOfMemory, PlaceList, RoomList};
 pub use stream::{Failed, Sink, Source};
-pub use whole::{LONGEST_TEXT, ReadWhole, WriteFault, read_whole, write_whole};
+pub use whole::{ReadWhole, WriteFault, read_whole, write_whole};
 
 /// A list of bytes.
 pub type ByteList = RoomList<u8>;
-
-/// A list of places.
-pub type PlaceList = RoomList<u64>;
 
 #[cfg(test)]
 mod tests;

@@ -5,8 +5,8 @@ ghost use Rattle.pq_io.specs.Faults.{Rose};
 ghost use Rattle.pq_io.specs.Memory.{TakesFrom, PutsInto};
 
 use crate::stream::{Failed, Sink, Source};
-use crate::{ByteList, PlaceList};
-use std::alloc::{AllocError, Global};
+use crate::{ByteList, OutOfMemory, PlaceList};
+use std::alloc::Global;
 use std::marker::Model;
 
 /// A source over bytes in memory, with failing calls where that is asked for.
@@ -123,7 +123,12 @@ impl MemSink {
     /// An empty sink with room for `room` bytes, which is taken here, once. A call takes at most `step` bytes. The
     /// calls are numbered from 0, and those whose numbers stand in `fails` fail, as do all without free room. From
     /// the number 2^64 - 1 on all calls have this number.
-    pub fn new(alloc: Global, step: u32, room: u64, fails: PlaceList) -> Result<MemSink, AllocError>
+    pub fn new(
+        alloc: Global,
+        step: u32,
+        room: u64,
+        fails: PlaceList,
+    ) -> Result<MemSink, OutOfMemory>
         requires { 0 < step }
         ensures held { IfOk result (λ sink. sink.held ≡ []) }
         ensures room { IfOk result (λ sink. sink.room ≡ room) }

@@ -4,6 +4,7 @@ ghost use Rattle.pq_io.specs.Whole.{ReadsWhole, WritesWhole};
 use crate::ByteList;
 use crate::filling::{Filling, Stop};
 use crate::stream::{Sink, Source};
+use pq_limits::MAX_INPUT;
 use std::alloc::Global;
 use thiserror::Error;
 
@@ -27,14 +28,11 @@ pub struct WriteFault {
     pub sent: u64,
 }
 
-/// The greatest limit of the bytes that are read.
-pub const LONGEST_TEXT: u64 = 67_108_864;
-
 /// Reads all that the source has left, at most `limit` bytes. `Failed` comes only where the source's count of faults
 /// rose in this call; `taken` bytes were taken before. `TooLong` comes exactly where more than `limit` bytes were
 /// given. Of a source that doesn't tell what is left, the statements on the counts hold.
 pub fn read_whole<S: Source>(alloc: Global, source: &mut S, limit: u64) -> ReadWhole
-    requires { limit ≤ LONGEST_TEXT }
+    requires { limit ≤ MAX_INPUT }
     ensures answer { ReadsWhole (S.left source.old) (S.left source.new) (S.faults source.old) (S.faults source.new) limit result }
     ensures never_falls { S.faults source.old ≤ S.faults source.new }
 {

@@ -1,10 +1,13 @@
 //! A list with the room that was asked for: what the lists of the public surface are.
 #![tactic(auto)]
 
-ghost use Rattle.std.specs.Prelude.{◌≡◌, ◌<◌, [], ◌∷◌, ◌++◌, length, IfOk, vec_len};
+ghost use Rattle.std.specs.Prelude.{◌≡◌, ◌<◌, ◌≤◌, [], ◌∷◌, ◌++◌, length, slice_set, IfOk, vec_len, vec_capacity};
 
 use std::alloc::{AllocError, Global};
 use std::marker::Model;
+
+/// Want of memory.
+pub type OutOfMemory = AllocError;
 
 /// A list of items, and the room that was asked for when it was made. Contracts see both: `items`
 /// and `room`. Items are appended while there are fewer than `room`, which takes no memory.
@@ -27,7 +30,7 @@ impl<T> Model for RoomList<T> {
 
 impl<T> RoomList<T> {
     /// An empty list with room for `room` items. The room is taken here, once.
-    pub fn with_room(alloc: Global, room: u64) -> Result<Self, AllocError>
+    pub fn with_room(alloc: Global, room: u64) -> Result<Self, OutOfMemory>
         ensures items { IfOk result (λ made. made.items ≡ []) }
         ensures room { IfOk result (λ made. made.room ≡ room) }
     {
@@ -66,6 +69,38 @@ impl<T> RoomList<T> {
     {
         self.list.as_slice()
     }
+
+    /// The items, in the vector in which they stand: none is copied, and no memory is taken. `of` makes it a list again.
+    pub fn into_vec(self) -> Vec<T>
+        ensures items { result.items ≡ self.items }
+        ensures room { self.room ≤ vec_capacity result }
+    {
+        let RoomList { list, asked: _ } = self;
+        list
+    }
+}
+
+impl<T: Copy> RoomList<T> {
+    /// Writes an item over another. It takes no memory.
+    pub fn put(&mut self, number: u64, item: T)
+        requires { number < length self.old.items }
+        ensures items { self.new.items ≡ slice_set self.old.items number item }
+        ensures room { self.new.room ≡ self.old.room }
+    {
+        self.list[number as usize] = item;
+    }
+}
+
+/// A list of places.
+pub type PlaceList = RoomList<u64>;
+
+/// Asks that the values of a type may be handed to another thread and be shared by several. A crate calls it at its own
+/// types, so that it shows there if one may not.
+pub fn crosses_threads<T: Send + Sync>() {}
+
+// A list crosses threads where its items do.
+fn list_crosses_threads<T: Send + Sync>() {
+    crosses_threads::<RoomList<T>>();
 }
 
 #[cfg(test)]

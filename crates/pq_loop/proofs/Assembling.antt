@@ -10,19 +10,19 @@ use Rattle.pq_rules.specs.Row.{RowView}
 use Rattle.pq_array.specs.Cells.{live, rank}
 use Rattle.pq_array.proofs.Ranks.{rank-le-live, length-live-le}
 use Rattle.pq_finger.specs.declared.cut.Cut.{Cut}
-use Rattle.pq_finger.specs.Gaps.{GapCut, segment_from, segment_to, selected, ascending}
+use Rattle.pq_gaps.specs.Gaps.{GapCut, segment_from, segment_to, selected, ascending}
 use Rattle.pq_finger.specs.Settled.{settled, AreInOrder, MakesPlace}
 use Rattle.pq_finger.specs.Ranks.{IsAtPlaces, AreCutsOf, LosesGates}
-use Rattle.pq_finger.proofs.Ascending.{member-ascending}
-use Rattle.pq_finger.proofs.Rising.{contains_from_member, all_member, All-from_member}
+use Rattle.pq_gaps.proofs.Ascending.{member-ascending}
+use Rattle.pq_gaps.proofs.Rising.{contains_from_member, all_member, All-from_member}
 use Rattle.pq_finger.proofs.Exactly.{settled_exactly}
 use Rattle.pq_finger.proofs.RankLaws.{round_in_order}
 use Rattle.pq_finger.proofs.RoundRanks.{moved_round}
 use Rattle.pq_oracle.specs.Outcomes.{WorkedView}
 use Rattle.pq_round.specs.Results.{AreResults}
-use Rattle.pq_loop.specs.declared.one_round.Step.{Step}
+use Rattle.pq_method.specs.declared.step.Step.{Step}
 use Rattle.pq_loop.specs.declared.segments.Segments.{Segments}
-use Rattle.pq_loop.specs.Round.{Round, Work, IsWorkOf, cut_of, joined}
+use Rattle.pq_method.specs.Round.{Round, Work, IsWorkOf, cut_of, joined}
 use Rattle.pq_loop.specs.Segments.{stands, state_of, AreSegments, AreOfFingers, works_in, AreNumbersOf, AreMoved}
 use Rattle.pq_loop.proofs.Standing.{standing_rises, standing_inside}
 use Rattle.pq_loop.proofs.Gathered.{works_fit, works_gaps, works_count, results_count}

@@ -14,19 +14,19 @@ use Rattle.pq_gate.specs.Matrix.{Same}
 use Rattle.pq_rules.specs.Row.{RowView, IsSound}
 use Rattle.pq_array.specs.Cells.{live, rank, IsLive}
 use Rattle.pq_array.proofs.Ranks.{live-map_some}
-use Rattle.pq_finger.specs.Gaps.{first_fingers}
-use Rattle.pq_finger.proofs.Multiples.{below_quotient}
-use Rattle.pq_loop.specs.declared.one_round.Step.{Step}
-use Rattle.pq_loop.specs.Round.{State, IsState, Round}
-use Rattle.pq_loop.specs.Opt.{first_state, Local, Cover}
+use Rattle.pq_gaps.specs.Gaps.{first_fingers}
+use Rattle.pq_gaps.proofs.Multiples.{below_quotient}
+use Rattle.pq_method.specs.declared.step.Step.{Step}
+use Rattle.pq_method.specs.Round.{State, IsState, Round}
+use Rattle.pq_method.specs.Opt.{first_state, Local, Cover}
 use Rattle.pq_loop.specs.Segments.{stands, state_of}
 use Rattle.pq_loop.specs.Loops.{LoopView, IsCovered, IsKept}
-use Rattle.pq_loop.proofs.Covering.{state_after, cover_after}
-use Rattle.pq_loop.proofs.Joining.{round_same}
-use Rattle.pq_loop.proofs.Falling.{round_falls, round_selects}
-use Rattle.pq_loop.proofs.OneOpt.{first_is_state}
+use Rattle.pq_method.proofs.Covering.{state_after, cover_after}
+use Rattle.pq_method.proofs.Joining.{round_same}
+use Rattle.pq_method.proofs.Falling.{round_falls, round_selects}
+use Rattle.pq_method.proofs.OneOpt.{first_is_state}
 use Rattle.pq_loop.proofs.Standing.{live_stands, end_stands}
-use Rattle.pq_loop.proofs.Ending.{first_covers, local_without_fingers}
+use Rattle.pq_method.proofs.Ending.{first_covers, local_without_fingers}
 
 -- a round keeps it
 pub kept_after : {old new : List (Option Gate)} {fingers moved : List ℕ} {rules : List RowView} {w rounds calls phase : ℕ} {step : Step} →

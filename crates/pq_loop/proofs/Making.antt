@@ -9,7 +9,7 @@ use Rattle.std.proofs.lemmas.List.Elements.{All-append, All-from_get_or}
 use Rattle.pq_gate.specs.declared.gate.Gate.{Gate}
 use Rattle.pq_array.specs.Cells.{live, rank}
 use Rattle.pq_array.proofs.Ranks.{rank-le}
-use Rattle.pq_finger.specs.Gaps.{segment_from, segment_to}
+use Rattle.pq_gaps.specs.Gaps.{segment_from, segment_to}
 use Rattle.pq_loop.specs.Segments.{AreOfRun, AreJobs}
 use Rattle.pq_loop.proofs.Growing.{increasing_append}
 
@@ -44,14 +44,20 @@ before_by_rank cells p q less = by (cases_lt p q)
     by (inr behind) = absurd (omega (arith, rank-le cells q p behind))
 
 -- a job of the next gap comes behind the others
-pub joined_rise : (cells : List (Option Gate)) (reach : ℕ) (gaps : List ℕ) (index to : ℕ) (jobs : List (List ℕ)) (places : List ℕ) → index < length gaps →
+pub behind_jobs : (cells : List (Option Gate)) (reach : ℕ) (gaps : List ℕ) (index to : ℕ) (jobs : List (List ℕ)) (places : List ℕ) → index < length gaps →
+    JobsUpTo cells reach gaps index jobs → AreOfRun cells (segment_from reach (get_or gaps index 0)) to places →
+    All (λ earlier. All (λ place. earlier < place) places) (concat jobs)
+behind_jobs cells reach gaps index to jobs places here so_far are =
+    λ i d lt. All-from_get_or (λ y. get_or (concat jobs) i d < y) places 0
+    (λ k in'. before_by_rank cells (get_or (concat jobs) i d) (get_or places k 0)
+    (omega (arith, so_far.before index (omega arith) here i d lt, are.ranks k in')))
+
+-- so the places of all rise
+joined_rise : (cells : List (Option Gate)) (reach : ℕ) (gaps : List ℕ) (index to : ℕ) (jobs : List (List ℕ)) (places : List ℕ) → index < length gaps →
     JobsUpTo cells reach gaps index jobs → AreOfRun cells (segment_from reach (get_or gaps index 0)) to places → IsStrictlyIncreasing places →
     IsStrictlyIncreasing (concat jobs ++ places)
 joined_rise cells reach gaps index to jobs places here so_far are up =
-    increasing_append (concat jobs) places so_far.rising up
-    (λ i d lt. All-from_get_or (λ y. get_or (concat jobs) i d < y) places 0
-    (λ k in'. before_by_rank cells (get_or (concat jobs) i d) (get_or places k 0)
-    (omega (arith, so_far.before index (omega arith) here i d lt, are.ranks k in'))))
+    increasing_append (concat jobs) places so_far.rising up (behind_jobs cells reach gaps index to jobs places here so_far are)
 
 -- with it the jobs go one gap further
 pub jobs_more : (cells : List (Option Gate)) (reach : ℕ) (gaps : List ℕ) (index : ℕ) (jobs : List (List ℕ)) (places : List ℕ) → index < length gaps →

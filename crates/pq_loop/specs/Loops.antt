@@ -3,8 +3,8 @@ use Rattle.std.specs.Prelude.{ℕ, ◌+◌, ◌*◌, ◌<◌, ◌≤◌, Option,
 use Rattle.pq_gate.specs.declared.gate.Gate.{Gate}
 use Rattle.pq_rules.specs.Row.{RowView, IsSound}
 use Rattle.pq_array.specs.Cells.{live}
-use Rattle.pq_loop.specs.Round.{State, IsState}
-use Rattle.pq_loop.specs.Opt.{Cover}
+use Rattle.pq_method.specs.Round.{State, IsState}
+use Rattle.pq_method.specs.Opt.{Cover}
 use Rattle.pq_loop.specs.Segments.{stands, state_of}
 
 -- The state, the window length and the rules; the rounds so far, the oracle's calls (the selected fingers of

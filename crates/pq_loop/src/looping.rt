@@ -2,17 +2,18 @@ ghost use Rattle.std.specs.Prelude.{◌≡◌, ◌↔◌, ◌+◌, ◌*◌, ◌%
 ghost use Rattle.pq_array.specs.Cells.{live};
 ghost use Rattle.pq_gate.specs.Circuit.{IsCircuit};
 ghost use Rattle.pq_gate.specs.Matrix.{Same};
-ghost use Rattle.pq_finger.specs.Gaps.{first_fingers};
-ghost use Rattle.pq_loop.specs.Round.{Round};
-ghost use Rattle.pq_loop.specs.Opt.{first_state, Local};
+ghost use Rattle.pq_gaps.specs.Gaps.{first_fingers};
+ghost use Rattle.pq_method.specs.Round.{Round};
+ghost use Rattle.pq_method.specs.Opt.{first_state, Local};
 ghost use Rattle.pq_loop.specs.Loops.{IsCovered};
 
-use crate::one_round::{Step, work_round};
+use crate::one_round::work_round;
 #[cfg(test)]
 use crate::segments::gaps_of;
 use pq_array::GateArray;
 use pq_finger::Fingers;
 use pq_gate::{Gate, GateList};
+use pq_method::Step;
 use pq_rules::Rules;
 use std::alloc::{AllocError, Global};
 use std::marker::Model;

@@ -1,33 +1,18 @@
 ghost use Rattle.std.specs.Prelude.{◌≡◌, ◌≤◌, ℕ, List, All, IfOk, IsTrue, length, map};
 ghost use Rattle.pq_array.specs.Cells.{live, rank};
-ghost use Rattle.pq_finger.specs.Gaps.{ascending};
+ghost use Rattle.pq_gaps.specs.Gaps.{ascending};
 ghost use Rattle.pq_match.specs.Row.{IsSound};
-ghost use Rattle.pq_loop.specs.Round.{Round};
+ghost use Rattle.pq_method.specs.Round.{Round};
 ghost use Rattle.pq_loop.specs.Segments.{stands, state_of, works_of, AreNumbersOf, AreMoved};
 
 use crate::segments::segments_of;
 use pq_array::GateArray;
 use pq_finger::Fingers;
+use pq_method::Step;
 use pq_oracle::Worked;
 use pq_round::run_round;
 use pq_rules::Rules;
 use std::alloc::{AllocError, Global};
-
-/// The numbers of a round.
-#[derive(Clone, Copy, Debug, PartialEq, Eq)]
-pub struct Step {
-    /// How many fingers were selected. The segment of each was given to the oracle.
-    pub selected: u64,
-
-    /// How many segments were improved.
-    pub improved: u64,
-
-    /// How many gates were removed.
-    pub removed: u64,
-
-    /// By how many eighths of a whole turn the old gates turn more than the new ones, from 0 to 7.
-    pub phase: u8,
-}
 
 /// One round: the gates of the array become those after the round. Answers the fingers after it, and its
 /// numbers. Each finger is at the place of a live gate, or at the end.

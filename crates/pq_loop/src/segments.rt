@@ -2,9 +2,9 @@ ghost use Rattle.std.specs.Prelude.{◌≡◌, ◌+◌, ◌*◌, ◌<◌, ◌≤
 ghost use Rattle.std.specs.List.Sorted.{IsStrictlyIncreasing};
 ghost use Rattle.std.specs.List.{AllZip};
 ghost use Rattle.pq_array.specs.Cells.{live, rank, IsLive};
-ghost use Rattle.pq_finger.specs.Gaps.{GapCut, segment_from, segment_to};
+ghost use Rattle.pq_gaps.specs.Gaps.{GapCut, segment_from, segment_to};
 ghost use Rattle.pq_finger.specs.Ranks.{IsAtPlaces};
-ghost use Rattle.pq_loop.specs.Round.{cut_of};
+ghost use Rattle.pq_method.specs.Round.{cut_of};
 ghost use Rattle.pq_loop.specs.Segments.{stands, AreOfRun, AreJobs, AreSegments, AreOfFingers, IsCutHere, works_in};
 
 use pq_array::GateArray;

@@ -143,11 +143,14 @@ sound_of_test row is =
     let left = circuit_true row.wires row.pattern f.0 in
     let right = circuit_true row.wires row.replacement g.0 in
     record {
-      some = leb-true _ _ a.0;
-      few = leb-true _ _ b.0;
-      short = leb-true _ _ c.0;
-      used = λ w below. uses_true w row.pattern (all_below-at row.wires (λ w. any_touching w row.pattern) h.0 w below);
-      shorter = ltb-true _ _ d.0;
+      wires = record {
+        some = leb-true _ _ a.0;
+        few = leb-true _ _ b.0;
+        left = left;
+        right = right;
+        used = λ w below. uses_true w row.pattern (all_below-at row.wires (λ w. any_touching w row.pattern) h.0 w below);
+      };
+      shortens = record { short = leb-true _ _ c.0; shorter = ltb-true _ _ d.0 };
       turn = leb-true _ _ e.0;
       same = same_of_agrees row left right (λ f t f_in t_in. same_ring-true _ _
           (all_below-at (2 ^ row.wires) (λ t. agree_test row f t)

@@ -13,6 +13,7 @@ ghost use Rattle.pq_rules.specs.Columns.{HasWeights, IsMatrix};
 ghost use Rattle.pq_rules.specs.States.{state};
 
 use pq_gate::{Eighths, Gate, Ring};
+use pq_limits::MAX_ROW_WIRES;
 
 const ZERO: Ring = Ring {
     a: 0,
@@ -30,7 +31,7 @@ const ONE: Ring = Ring {
 
 /// How many basis states there are.
 pub fn states(wires: u8) -> u8
-    requires { wires ≤ 3 }
+    requires { wires ≤ MAX_ROW_WIRES }
     ensures value { result ≡ 2 ^ wires }
     ensures few { result ≤ 8 }
 {
@@ -59,7 +60,7 @@ fn mask(wire: u32) -> u8
 fn has_bit(number: u8, wire: u32) -> bool
     requires number { number < 8 }
     requires wire { wire < 3 }
-    ensures { (n : ℕ) → n ≤ 3 → wire < n → result ≡ bit (state n number) wire }
+    ensures { (n : ℕ) → n ≤ MAX_ROW_WIRES → wire < n → result ≡ bit (state n number) wire }
 {
     number / mask(wire) % 2 == 1
 }
@@ -69,7 +70,7 @@ fn with_bit(number: u8, wire: u32, value: bool) -> u8
     requires number { number < 8 }
     requires wire { wire < 3 }
     ensures number { result < 8 }
-    ensures state { (n : ℕ) → n ≤ 3 → wire < n → state n result ≡ slice_set (state n number) wire value }
+    ensures state { (n : ℕ) → n ≤ MAX_ROW_WIRES → wire < n → state n result ≡ slice_set (state n number) wire value }
 {
     if value {
         number | mask(wire)
@@ -138,7 +139,7 @@ fn toggled_bit(number: u8, wire: u32, by: bool) -> u8
     requires number { number < 8 }
     requires wire { wire < 3 }
     ensures number { result < 8 }
-    ensures state { (n : ℕ) → n ≤ 3 → wire < n → state n result ≡ toggled (state n number) wire by }
+    ensures state { (n : ℕ) → n ≤ MAX_ROW_WIRES → wire < n → state n result ≡ toggled (state n number) wire by }
 {
     let value = has_bit(number, wire);
     with_bit(number, wire, if by { !value } else { value })
@@ -181,7 +182,7 @@ fn entry_through(gate: Gate, rest: &[Ring; 8], from: u8) -> Ring
     requires gate { IsOnWires 3 gate }
     requires from { from < 8 }
     requires rest { IsColumnWithin 16384 rest.now }
-    ensures { (n : ℕ) (f : List Bool → Ring) → n ≤ 3 → IsOnWires n gate → HasWeights n rest.now f →
+    ensures { (n : ℕ) (f : List Bool → Ring) → n ≤ MAX_ROW_WIRES → IsOnWires n gate → HasWeights n rest.now f →
         result ≡ through gate f (state n from) }
 {
     match gate {
@@ -208,7 +209,7 @@ fn entry_through(gate: Gate, rest: &[Ring; 8], from: u8) -> Ring
 fn column_through(gate: Gate, rest: &[Ring; 8]) -> [Ring; 8]
     requires gate { IsOnWires 3 gate }
     requires rest { IsColumnWithin 16384 rest.now }
-    ensures { (n : ℕ) (f : List Bool → Ring) → n ≤ 3 → IsOnWires n gate → HasWeights n rest.now f →
+    ensures { (n : ℕ) (f : List Bool → Ring) → n ≤ MAX_ROW_WIRES → IsOnWires n gate → HasWeights n rest.now f →
         HasWeights n result (λ x. through gate f x) }
 {
     let mut column = *rest;
@@ -220,7 +221,7 @@ fn column_through(gate: Gate, rest: &[Ring; 8]) -> [Ring; 8]
 
 // `unit` at the state with the number `to`, and 0 at each other one
 fn column_at(wires: u8, unit: Ring, to: u8) -> [Ring; 8]
-    requires wires { wires ≤ 3 }
+    requires wires { wires ≤ MAX_ROW_WIRES }
     requires to { to < 2 ^ wires }
     ensures { HasWeights wires result (λ x. cond (same_bits x (state wires to)) unit nought) }
 {
@@ -235,7 +236,7 @@ fn column_at(wires: u8, unit: Ring, to: u8) -> [Ring; 8]
 /// The column of the circuit's matrix with what leads to the state with the number `to`, times
 /// √2^`roots` more.
 pub fn column_of(gates: &[Gate], wires: u8, roots: u8, to: u8) -> [Ring; 8]
-    requires wires { wires ≤ 3 }
+    requires wires { wires ≤ MAX_ROW_WIRES }
     requires gates { IsCircuit wires gates.now }
     requires to { to < 2 ^ wires }
     requires roots { roots ≤ 8 }
@@ -253,7 +254,7 @@ pub fn column_of(gates: &[Gate], wires: u8, roots: u8, to: u8) -> [Ring; 8]
 
 /// The columns of the circuit's matrix, times √2^`roots` more.
 pub fn matrix_of(gates: &[Gate], wires: u8, roots: u8) -> [[Ring; 8]; 8]
-    requires wires { wires ≤ 3 }
+    requires wires { wires ≤ MAX_ROW_WIRES }
     requires gates { IsCircuit wires gates.now }
     requires roots { roots ≤ 8 }
     requires few { roots + length gates.now ≤ 15 }

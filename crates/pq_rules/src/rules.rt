@@ -8,8 +8,16 @@ ghost use Rattle.pq_rules.specs.Table.{builtin_rows};
 use crate::row::{RawRow, Row};
 use crate::table::{GATES, SHAPES, Shape};
 use pq_gate::{Eighths, Gate, GateList};
-use std::alloc::{AllocError, Global};
+use pq_limits::MAX_EXTRA_ROWS;
+use pq_list::{OutOfMemory, crosses_threads};
+use std::alloc::Global;
 use std::marker::Model;
+
+/// How many rows are built in.
+pub const BUILTIN_ROWS: usize = 52;
+
+/// The most rows: the built-in ones, and as many as may follow them.
+pub const MAX_ROWS: usize = BUILTIN_ROWS + MAX_EXTRA_ROWS;
 
 // how many numbers there are for kinds of gates
 const KINDS: u8 = 10;
@@ -33,18 +41,19 @@ impl Model for Rules {
     ghost use Rattle.std.specs.Prelude.{◌≡◌, ◌<◌, ◌≤◌, All, slice_index_or, vec_len};
     ghost use Rattle.pq_rules.specs.Kinds.{numbers_starting};
     ghost use Rattle.pq_rules.specs.Row.{IsSound};
+    ghost use Rattle.pq_rules.specs.declared.rules.TheConstants.{MAX_ROWS};
 
     ghost view = { λ a. a.rows.items };
 
-    ghost invariant = { λ a. All IsSound a.rows.items × (vec_len a.rows ≤ 308) × (vec_len a.starting ≡ 10) ×
+    ghost invariant = { λ a. All IsSound a.rows.items × (vec_len a.rows ≤ MAX_ROWS) × (vec_len a.starting ≡ 10) ×
         ((k : ℕ) (d : _) → k < 10 → (slice_index_or a.starting.items k d).items ≡ numbers_starting k 1 a.rows.items) };
 }
 
 impl Rules {
     /// The 52 built-in rows.
-    pub fn builtin(alloc: Global) -> Result<Rules, AllocError>
+    pub fn builtin(alloc: Global) -> Result<Rules, OutOfMemory>
         ensures rows { IfOk result (λ rules. rules ≡ builtin_rows) }
-        ensures count { IfOk result (λ rules. length rules ≡ 52) }
+        ensures count { IfOk result (λ rules. length rules ≡ BUILTIN_ROWS) }
     {
         let mut rows = Vec::with_capacity(alloc, SHAPES.len())?;
         for shape in &SHAPES {
@@ -54,8 +63,8 @@ impl Rules {
     }
 
     /// These rules, and the extra rows behind them.
-    pub fn with(self, alloc: Global, extra: Vec<Row>) -> Result<Rules, AllocError>
-        requires { length self + vec_len extra ≤ 308 }
+    pub fn with(self, alloc: Global, extra: Vec<Row>) -> Result<Rules, OutOfMemory>
+        requires { length self + vec_len extra ≤ MAX_ROWS }
         ensures { IfOk result (λ rules. rules ≡ self ++ extra.items) }
     {
         let Rules {
@@ -68,8 +77,8 @@ impl Rules {
     }
 
     // the rules with these rows
-    fn of(alloc: Global, rows: Vec<Row>) -> Result<Rules, AllocError>
-        requires { vec_len rows ≤ 308 }
+    fn of(alloc: Global, rows: Vec<Row>) -> Result<Rules, OutOfMemory>
+        requires { vec_len rows ≤ MAX_ROWS }
         ensures { IfOk result (λ rules. rules ≡ rows.items) }
     {
         let starting = index_of(alloc, rows.as_slice())?;
@@ -111,6 +120,12 @@ impl Rules {
     }
 }
 
+// Rows and rules cross threads.
+fn rules_cross_threads() {
+    crosses_threads::<Row>();
+    crosses_threads::<Rules>();
+}
+
 // All rows are sound, since each of them is.
 fn rows_are_sound(rows: &[Row])
     ensures { All IsSound rows.now }
@@ -150,7 +165,7 @@ fn starts(row: &Row, of_kind: u8) -> bool
 }
 
 // appends the number where it is wanted
-fn push_where(numbers: &mut Vec<u32>, number: u32, wanted: bool) -> Result<(), AllocError>
+fn push_where(numbers: &mut Vec<u32>, number: u32, wanted: bool) -> Result<(), OutOfMemory>
     ensures { IfOk result (λ _. numbers.new.items ≡ numbers.old.items ++ cond wanted (number ∷ []) []) }
 {
     if wanted {
@@ -160,8 +175,8 @@ fn push_where(numbers: &mut Vec<u32>, number: u32, wanted: bool) -> Result<(), A
 }
 
 // the numbers of the rows that start with a gate of this kind
-fn numbers_of(alloc: Global, rows: &[Row], of_kind: u8) -> Result<Vec<u32>, AllocError>
-    requires { length rows.now ≤ 308 }
+fn numbers_of(alloc: Global, rows: &[Row], of_kind: u8) -> Result<Vec<u32>, OutOfMemory>
+    requires { length rows.now ≤ MAX_ROWS }
     ensures { IfOk result (λ numbers. numbers.items ≡ numbers_starting of_kind 1 rows.now) }
 {
     let mut numbers = Vec::new(alloc);
@@ -174,8 +189,8 @@ fn numbers_of(alloc: Global, rows: &[Row], of_kind: u8) -> Result<Vec<u32>, Allo
 }
 
 // the same for each kind
-fn index_of(alloc: Global, rows: &[Row]) -> Result<Vec<Vec<u32>>, AllocError>
-    requires { length rows.now ≤ 308 }
+fn index_of(alloc: Global, rows: &[Row]) -> Result<Vec<Vec<u32>>, OutOfMemory>
+    requires { length rows.now ≤ MAX_ROWS }
     ensures len { IfOk result (λ index. vec_len index ≡ 10) }
     ensures numbers { IfOk result (λ index. (k : ℕ) (d : _) → k < 10 → (slice_index_or index.items k d).items ≡ numbers_starting k 1 rows.now) }
 {
@@ -187,7 +202,7 @@ fn index_of(alloc: Global, rows: &[Row]) -> Result<Vec<Vec<u32>>, AllocError>
 }
 
 // the row whose sides stand at the places of a shape
-fn row_of(alloc: Global, shape: &Shape) -> Result<Row, AllocError>
+fn row_of(alloc: Global, shape: &Shape) -> Result<Row, OutOfMemory>
     requires sound { IsSound (shape_row GATES shape.now) }
     requires inside { (shape.now.start ≤ shape.now.middle) × (shape.now.middle ≤ shape.now.end) × (shape.now.end ≤ length GATES) }
     ensures { IfOk result (λ row. row ≡ shape_row GATES shape.now) }

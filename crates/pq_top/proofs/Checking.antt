@@ -19,7 +19,7 @@ use Rattle.pq_match.specs.Redex.{RedexView, IsRedex, IsWithin, AreFree, gate_at,
 use Rattle.pq_match.specs.First.{IsFirst, HasNoneWithin}
 use Rattle.pq_loop.specs.Round.{run}
 use Rattle.pq_loop.specs.Opt.{Local}
-use Rattle.pq_loop.proofs.Redexes.{shifted, later_redex, redex_in_longer}
+use Rattle.pq_method.proofs.Redexes.{shifted, later_redex, redex_in_longer}
 use Rattle.pq_top.specs.Outputs.{redex_line, local_line, IsCheckText}
 
 -- the gates before a run, those of the run, and those after it

@@ -4,7 +4,7 @@ use Rattle.std.specs.Prelude.{IsTrue}
 use Rattle.pq_gate.specs.declared.gate.Gate.{Gate}
 use Rattle.pq_rules.specs.Row.{RowView}
 use Rattle.pq_loop.specs.declared.looping.Finished.{Finished}
-use Rattle.pq_loop.specs.declared.one_round.Step.{Step}
+use Rattle.pq_method.specs.declared.step.Step.{Step}
 use Rattle.pq_loop.specs.Gaps.{first_fingers}
 use Rattle.pq_loop.specs.Loops.{LoopView}
 use Rattle.pq_loop.specs.Round.{State, Round}

@@ -10,7 +10,7 @@ use Rattle.pq_rules.specs.Table.{builtin_rows}
 use Rattle.pq_rules.proofs.BuiltinRows.{builtin_rows_sound}
 use Rattle.pq_match.proofs.OneFirst.{one_first}
 use Rattle.pq_loop.specs.Opt.{Total, Opt}
-use Rattle.pq_loop.proofs.OneOpt.{opt_only}
+use Rattle.pq_method.proofs.OneOpt.{opt_only}
 use Rattle.pq_write.specs.Report.{report_text}
 use Rattle.pq_generate.specs.Generated.{generated}
 use Rattle.pq_command.specs.declared.settings.Settings.{Settings}

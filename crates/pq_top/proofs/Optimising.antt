@@ -15,14 +15,14 @@ use Rattle.pq_loop.specs.declared.looping.Finished.{Finished}
 use Rattle.pq_loop.specs.Gaps.{first_fingers}
 use Rattle.pq_loop.specs.Loops.{LoopView}
 use Rattle.pq_loop.specs.Opt.{Total, Opt, Local}
-use Rattle.pq_loop.proofs.Ending.{opt_local, opt_same, opt_bound}
-use Rattle.pq_loop.proofs.Falling.{round_falls}
+use Rattle.pq_method.proofs.Ending.{opt_local, opt_same, opt_bound}
+use Rattle.pq_method.proofs.Falling.{round_falls}
 use Rattle.pq_write.specs.declared.report.Report.{Report}
 use Rattle.pq_write.specs.Report.{report_text}
 use Rattle.pq_generate.specs.Generated.{generated}
 use Rattle.pq_top.specs.Outputs.{with_gates, total_of, report_of, KeepsMatrix, IsOptimised, IsOptText, IsBenchText}
 use Rattle.pq_top.proofs.Leading.{IsOnItsWay, led_to_end}
-use Rattle.pq_loop.proofs.Shortening.{opt_shorter}
+use Rattle.pq_method.proofs.Shortening.{opt_shorter}
 
 -- What holds of all that rounds from the first fingers leave.
 pub record IsLeft (w : ℕ) (gates : List Gate) (total : Total) : Type 0 where

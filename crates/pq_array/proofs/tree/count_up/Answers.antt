@@ -33,12 +33,11 @@ loop-node-preserved c =
       unused = get_or-set_other c.loop-node.words (c.loop-node.node - 1) 0 c.if-node-width.words 0 not_first ∙ c.loop-node.invariant.unused;
     }
 
-pub returns : goal.returns
-returns c =
+pub returns-clause-tree : goal.returns-clause-tree
+returns-clause-tree c =
     let counts = Counts-from_Spans c.args.cells.now c.loop-node.words c.requires.leaves.0.0 (omega (arith, c.requires.pairs, c.requires.leaves.0.1)) (omega (arith, c.requires.leaves.1, c.requires.leaves.0.1))
     (Spans-from_first c.requires.leaves.0.0 (length c.args.words.now / 2) c.loop-node.node c.args.cells.now c.loop-node.words c.requires.leaves.0.1 c.loop-node-test.false c.loop-node.invariant.counted) in
     record {
       leaves = rw c.loop-node.auto.words c.requires.leaves;
-      unused = c.loop-node.invariant.unused;
       counts = counts;
     }

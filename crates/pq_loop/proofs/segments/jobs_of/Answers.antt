@@ -2,9 +2,9 @@ use Rattle.std.proofs.Common.{◌∙◌, arith, get_or, length}
 use Rattle.std.specs.List.Sorted.{IsStrictlyIncreasing}
 use Rattle.pq_array.specs.Cells.{live}
 use Rattle.pq_array.proofs.Ranks.{length-live-le}
-use Rattle.pq_finger.specs.Gaps.{segment_from, segment_to}
+use Rattle.pq_gaps.specs.Gaps.{segment_from, segment_to}
 use Rattle.pq_loop.specs.Segments.{AreOfRun}
-use Rattle.pq_loop.proofs.Making.{joined_rise, jobs_more, gaps_far}
+use Rattle.pq_loop.proofs.Making.{behind_jobs, jobs_more, gaps_far}
 use Rattle.pq_loop.proofs.segments.jobs_of.Goals as goal
 use Rattle.pq_loop.proofs.segments.jobs_of.Goals.{After-as_slice}
 
@@ -24,9 +24,12 @@ put c = record {
 }
 
 pub add-requires-clause-rising : goal.add-requires-clause-rising
-add-requires-clause-rising c =
-    joined_rise c.args.array.now c.args.omega c.args.gaps.now c.loop-gap.gap-index _ c.loop-gap.jobs c.as_slice.result.now c.loop-gap-test.true
-    c.loop-gap.invariant.jobs (put c).are (put c).up
+add-requires-clause-rising c = (put c).up
+
+pub add-requires-clause-behind : goal.add-requires-clause-behind
+add-requires-clause-behind c =
+    behind_jobs c.args.array.now c.args.omega c.args.gaps.now c.loop-gap.gap-index _ c.loop-gap.jobs c.as_slice.result.now c.loop-gap-test.true
+    c.loop-gap.invariant.jobs (put c).are
 
 pub add-requires-clause-few : goal.add-requires-clause-few
 add-requires-clause-few c =
