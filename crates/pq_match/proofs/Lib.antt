@@ -1,3 +1,4 @@
+pub mod Leading
 pub mod Moving
 mod FirstOfOrder
 mod FirstOfSettled
@@ -10,6 +11,8 @@ pub mod RewritingPlaces
 pub mod Growing
 pub mod GrowingWalk
 pub mod GrowingSkips
+pub mod CursorLaws
+pub mod Seeking
 pub mod SearchWires
 pub mod SearchTouches
 pub mod SearchNear

@@ -282,7 +282,7 @@ rewriting_keeps rules gates redex is n sound circuit =
     let gathers : Same n front (u ++ p) 0 =
     gathered_pattern gates is.row.pattern redex.wires redex.places n is.matches is.free (IsCircuit-front n front back parts) in
     let renames : IsRenaming is.row.wires n redex.wires =
-    IsRenaming-used is.row.wires n redex.wires is.row.pattern is.wires sound.used (IsCircuit-back n u p gathers.right) in
+    IsRenaming-used is.row.wires n redex.wires is.row.pattern is.wires sound.wires.used (IsCircuit-back n u p gathers.right) in
     let same : Same n p q is.row.phase =
     same_renamed is.row.wires n is.row.phase redex.wires is.row.pattern is.row.replacement renames sound.same in
     subst (λ (c : List Gate). Same n c (u ++ (q ++ back)) is.row.phase) whole
@@ -314,4 +314,4 @@ rewriting_shortens rules gates redex is sound =
     let are : length (chosen redex.places 0 front) ≡ length is.row.pattern =
     ap (λ (c : List Gate). length c) (chosen_pattern gates is.row.pattern redex.wires redex.places is.matches) ∙
     length-map is.row.pattern (renamed redex.wires) in
-    omega (arith, length-append u (q ++ back), length-append q back, length-map is.row.replacement (renamed redex.wires), sound.shorter)
+    omega (arith, length-append u (q ++ back), length-append q back, length-map is.row.replacement (renamed redex.wires), sound.shortens.shorter)

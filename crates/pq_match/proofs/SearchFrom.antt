@@ -6,9 +6,9 @@ use Rattle.pq_rules.specs.Kinds.{kind_of, numbers_starting, row_numbered, begins
 use Rattle.pq_rules.specs.Row.{RowView}
 use Rattle.pq_match.specs.declared.redex.Redex.{Redex}
 use Rattle.pq_match.specs.Redex.{RedexView, IsRedex, gate_at}
-use Rattle.pq_match.specs.First.{Precedes, key}
-use Rattle.pq_match.specs.Found.{seen}
-use Rattle.pq_match.specs.Search.{IsFirstAmong, HasNoneAmong, IsFrom, IsOfRow}
+use Rattle.pq_match.specs.First.{Precedes, key, HasNoneAmong}
+use Rattle.pq_match.specs.Found.{seen, IsFoundAmong}
+use Rattle.pq_match.specs.Search.{IsFrom, IsOfRow}
 use Rattle.pq_match.proofs.SearchGates.{kind-renamed}
 use Rattle.pq_match.proofs.RewritingWires.{places_long, chosen_at}
 use Rattle.pq_match.proofs.SearchNumbers.{begins_by_kind, numbers_rise, number_stands}
@@ -65,12 +65,14 @@ tried_all {rules} {gates} {start} {end} {numbers} {index} tried all = record {
 }
 
 pub tried_first : {rules : List RowView} {gates : List Gate} {start end : ℕ} {numbers : List ℕ} {index : ℕ} {redex : Redex} → AreTried rules gates start end numbers index →
-    index < length numbers → IsFirstAmong (IsOfRow (get_or numbers index 0) start end) rules gates redex → IsFirstAmong (IsFrom start end) rules gates redex
+    index < length numbers → IsFoundAmong (IsOfRow (get_or numbers index 0) start end) rules gates redex → IsFoundAmong (IsFrom start end) rules gates redex
 tried_first {rules} {gates} {start} {end} {numbers} {index} {redex} tried inside first = record {
   wires = first.wires;
-  is = first.is;
-  among = (first.among.1, first.among.2);
-  first = λ other is from before. (let stands = stands_in tried other is from.0 in by other is from before stands (cases_order stands.at index));
+  first = record {
+    is = first.first.is;
+    among = (first.first.among.1, first.first.among.2);
+    first = λ other is from before. (let stands = stands_in tried other is from.0 in by other is from before stands (cases_order stands.at index));
+  };
   padded = first.padded;
 }
   where
@@ -82,16 +84,16 @@ tried_first {rules} {gates} {start} {end} {numbers} {index} {redex} tried inside
     later : (other : RedexView) → IsFrom start end other → (get_or numbers index 0 < other.row) →
         Precedes (key other) (key (seen redex first.wires)) → ⊥
     later other from more (inl less) =
-        let a : get_or (seen redex first.wires).places 0 0 ≡ start = first.among.1 in
+        let a : get_or (seen redex first.wires).places 0 0 ≡ start = first.first.among.1 in
         let b : get_or other.places 0 0 ≡ start = from.0 in
         omega arith
-    later other from more (inr (same, inl less)) = (let r : redex.row ≡ get_or numbers index 0 = first.among.0 in omega arith)
-    later other from more (inr (same, inr (row_same, before))) = (let r : redex.row ≡ get_or numbers index 0 = first.among.0 in omega arith)
+    later other from more (inr (same, inl less)) = (let r : redex.row ≡ get_or numbers index 0 = first.first.among.0 in omega arith)
+    later other from more (inr (same, inr (row_same, before))) = (let r : redex.row ≡ get_or numbers index 0 = first.first.among.0 in omega arith)
 
     by : (other : RedexView) → IsRedex rules gates other → IsFrom start end other → Precedes (key other) (key (seen redex first.wires)) →
         (stands : StandsAt numbers other.row) → (stands.at ≡ index) ⊎ ((stands.at < index) ⊎ (index < stands.at)) → ⊥
     by other is from before stands (inl same) =
-        first.first other is (sym stands.is ∙ ap (λ (k : ℕ). get_or numbers k 0) same, from.0, from.1) before
+        first.first.first other is (sym stands.is ∙ ap (λ (k : ℕ). get_or numbers k 0) same, from.0, from.1) before
     by other is from before stands (inr (inl less)) = tried.none stands.at less other is (sym stands.is, from.0, from.1)
     by other is from before stands (inr (inr more)) =
         later other from

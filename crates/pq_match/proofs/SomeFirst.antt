@@ -157,7 +157,7 @@ module _ (rules : List RowView) (gates : List Gate) (sound : All IsSound rules) 
   wires_low x is =
       All-from_get_or (λ w. w < above_all gates) x.wires 0
       (λ w inside.
-      let uses : Uses is.row.pattern w = (row_sound rules x.row is.row is.numbered sound).used w (omega (arith, is.wires.whole)) in
+      let uses : Uses is.row.pattern w = (row_sound rules x.row is.row is.numbered sound).wires.used w (omega (arith, is.wires.whole)) in
       let here : gate_at gates (get_or x.places uses.0 0) ≡ renamed x.wires uses.1 =
       chosen_at gates is.row.pattern x.wires x.places is.matches.chosen uses.0 uses.1 uses.2 ∙ ap (renamed x.wires) uses.3 in
       let touched : get_or x.wires w 0 < above_wires (renamed x.wires uses.1) =
@@ -190,11 +190,11 @@ module _ (rules : List RowView) (gates : List Gate) (sound : All IsSound rules) 
           low = number_small rules x.row is.row is.numbered;
           here = record {
             word = x.wires;
-            short = omega (arith, row.few, is.wires.whole);
+            short = omega (arith, row.wires.few, is.wires.whole);
             low = wires_low x is;
             here = record {
               word = x.places;
-              short = omega (arith, row.short, places_long gates is.row.pattern x.wires x.places is.matches.chosen);
+              short = omega (arith, row.shortens.short, places_long gates is.row.pattern x.wires x.places is.matches.chosen);
               low = is.matches.inside;
               here = refl;
             };
@@ -208,10 +208,10 @@ module _ (rules : List RowView) (gates : List Gate) (sound : All IsSound rules) 
             Some found.0,
             record {
               is = found.1.good.0;
-              within = found.1.good.1;
+              among = found.1.good.1;
               first = λ other is within before.
                   found.1.least other (covers other is) (is, within) (comes_from_precedes (key other) (key found.0) before);
             },
           )
-          | inr none ↦ (None, λ redex is within. none redex (covers redex is) (is, within))
+          | inr none ↦ (None, record { none = λ redex is within. none redex (covers redex is) (is, within) })
         ]

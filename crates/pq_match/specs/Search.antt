@@ -3,11 +3,7 @@ use Rattle.std.specs.Prelude.{◌≡◌, ◌≢◌, ℕ, ◌<◌, ◌≤◌, ◌
 use Rattle.pq_gate.specs.declared.gate.Gate.{Gate}
 use Rattle.pq_gate.specs.Commuting.{Touches, Commutes}
 use Rattle.pq_rules.specs.Kinds.{kind_of}
-use Rattle.pq_rules.specs.Row.{RowView}
-use Rattle.pq_match.specs.declared.redex.Redex.{Redex}
-use Rattle.pq_match.specs.Redex.{RedexView, IsRedex, gate_at, last_place}
-use Rattle.pq_match.specs.First.{Precedes, key}
-use Rattle.pq_match.specs.Found.{seen, IsPadded}
+use Rattle.pq_match.specs.Redex.{RedexView, gate_at, last_place}
 use Rattle.pq_match.specs.Wires.{wire_of}
 
 -- the gates share no wire
@@ -96,23 +92,6 @@ pub record HasNoFull (gates pattern : List Gate) (end : ℕ) (front : List ℕ) 
 abbrev pub FindsFull : List Gate → List Gate → ℕ → List ℕ → ℕ → Option (List ℕ) → Type 0
 FindsFull gates pattern end front count (Some places) = IsFirstFull gates pattern end front count places
 FindsFull gates pattern end front count None = HasNoFull gates pattern end front count
-
--- the first of the redexes with a property
-pub record IsFirstAmong (P : RedexView → Type 0) (rules : List RowView) (gates : List Gate) (redex : Redex) : Type 0 where
-  pub wires : List ℕ
-  pub is : IsRedex rules gates (seen redex wires)
-  pub among : P (seen redex wires)
-  pub first : (other : RedexView) → IsRedex rules gates other → P other → ¬ Precedes (key other) (key (seen redex wires))
-  pub padded : IsPadded redex
-
--- no redex has a property
-pub record HasNoneAmong (P : RedexView → Type 0) (rules : List RowView) (gates : List Gate) : Type 0 where
-  pub none : (other : RedexView) → IsRedex rules gates other → ¬ P other
-
--- the first of the redexes with a property, or None where there is none
-abbrev pub FindsAmong : (RedexView → Type 0) → List RowView → List Gate → Option Redex → Type 0
-FindsAmong P rules gates (Some redex) = IsFirstAmong P rules gates redex
-FindsAmong P rules gates None = HasNoneAmong P rules gates
 
 -- its first place is the start, and all its places lie before the end
 abbrev pub IsFrom : ℕ → ℕ → RedexView → Type 0

@@ -1,6 +1,7 @@
 //! The first redex of a list of gates, and rewriting it.
 #![tactic(auto)]
 
+mod cursors;
 pub mod laws;
 mod redex;
 mod rewrite;
@@ -14,4 +15,4 @@ mod tests;
 
 pub use redex::Redex;
 pub use search::{find_first, find_within};
-pub use segment::{MAX_ROOM, Seg};
+pub use segment::Seg;

@@ -1,20 +1,23 @@
-ghost use Rattle.std.specs.Prelude.{◌≡◌, ℕ, ◌+◌, ◌%◌, ◌<◌, ◌≤◌, ◌↔◌, IsTrue, true, false, length, slice_index, slice_index_or, slice_set};
+ghost use Rattle.std.specs.Prelude.{◌≡◌, ℕ, ◌+◌, ◌%◌, ◌<◌, ◌≤◌, ◌↔◌, IsTrue, IfSome, None, true, false, length, slice_index, slice_index_or, slice_set};
 ghost use Rattle.pq_gate.specs.Commuting.{Touches, Commutes};
 ghost use Rattle.pq_rules.specs.Kinds.{kind_of};
-ghost use Rattle.pq_match.specs.Redex.{gate_at};
-ghost use Rattle.pq_match.specs.Found.{FindsWithin};
-ghost use Rattle.pq_match.specs.Search.{AreApart, IsAlike, AreAlike, IsFitting, IsNext, HasKindsNear, IsPassable, IsGrown, FindsFull, AreEight, FindsAmong, IsFrom, IsOfRow};
+ghost use Rattle.pq_match.specs.Redex.{HasNoRedex, gate_at};
+ghost use Rattle.pq_match.specs.Found.{FindsAmong, FindsWithin, IsFirstFound};
+ghost use Rattle.pq_match.specs.Search.{AreApart, IsAlike, AreAlike, IsFitting, IsNext, HasKindsNear, IsPassable, IsGrown, FindsFull, AreEight, IsFrom, IsOfRow};
 
 use crate::redex::Redex;
 use crate::segment::Seg;
 use pq_links::wires_of;
 use pq_gate::{Eighths, Gate, commutes};
+use pq_limits::{MAX_GATES, MAX_ROW_GATES};
 use pq_rules::Rules;
 
 /// The first redex of a segment: the least first place, then the least row, then the least places in
 /// the order of a dictionary. None exactly where there is none. It takes no memory.
+#[tactic(auto, using(crate::proofs::OneFirst::none_of_all))]
 pub fn find_first(seg: &Seg, rules: &Rules) -> Option<Redex>
-    ensures { FindsWithin rules.now seg.now.items (length seg.now.items) result }
+    ensures none { result ≡ None ↔ HasNoRedex rules.now seg.now.items }
+    ensures first { IfSome result (λ redex. IsFirstFound rules.now seg.now.items (length seg.now.items) redex) }
 {
     let gates = seg.gates();
     find_within(gates, rules, gates.len() as u32)
@@ -24,7 +27,7 @@ pub fn find_first(seg: &Seg, rules: &Rules) -> Option<Redex>
 /// `span`. None exactly where there is none. It takes no memory.
 #[tactic(auto, using(crate::proofs::SearchWithin::none_before_first, crate::proofs::SearchWithin::none_before_more, crate::proofs::SearchWithin::none_at_all, crate::proofs::SearchWithin::first_from_here))]
 pub fn find_within(gates: &[Gate], rules: &Rules, span: u32) -> Option<Redex>
-    requires { length gates.now ≤ 1048576 }
+    requires { length gates.now ≤ MAX_GATES }
     ensures { FindsWithin rules.now gates.now span result }
 {
     if span == 0 {
@@ -43,7 +46,7 @@ pub fn find_within(gates: &[Gate], rules: &Rules, span: u32) -> Option<Redex>
 // the first redex whose first place is the start and whose places all lie before the end
 #[tactic(auto, using(crate::proofs::SearchFrom::none_tried, crate::proofs::SearchFrom::tried_more, crate::proofs::SearchFrom::tried_first))]
 fn find_from(gates: &[Gate], rules: &Rules, start: u32, end: u32) -> Option<Redex>
-    requires few { length gates.now ≤ 1048576 }
+    requires few { length gates.now ≤ MAX_GATES }
     requires start { start < end }
     requires end { end ≤ length gates.now }
     ensures { FindsAmong (IsFrom start end) rules.now gates.now result }
@@ -62,7 +65,7 @@ fn find_from(gates: &[Gate], rules: &Rules, start: u32, end: u32) -> Option<Rede
 // one of these kinds, so one pass rules out most rows.
 #[tactic(auto, using(crate::proofs::SearchNear::near_begins, crate::proofs::SearchNear::near_passes, crate::proofs::SearchNear::near_grows, crate::proofs::SearchNear::near_stops, crate::proofs::SearchNear::near_ends))]
 fn kinds_near(gates: &[Gate], start: u32, end: u32) -> [bool; 10]
-    requires few { length gates.now ≤ 1048576 }
+    requires few { length gates.now ≤ MAX_GATES }
     requires start { start < end }
     requires end { end ≤ length gates.now }
     ensures { HasKindsNear gates.now start end result }
@@ -91,7 +94,7 @@ fn find_row(
     end: u32,
     near: &[bool; 10],
 ) -> Option<Redex>
-    requires few { length gates.now ≤ 1048576 }
+    requires few { length gates.now ≤ MAX_GATES }
     requires start { start < end }
     requires end { end ≤ length gates.now }
     requires near { HasKindsNear gates.now start end near.now }
@@ -142,8 +145,8 @@ fn extend_at(
     count: usize,
     place: u32,
 ) -> Option<[u32; 8]>
-    requires few { length gates.now ≤ 1048576 }
-    requires short { length pattern.now ≤ 8 }
+    requires few { length gates.now ≤ MAX_GATES }
+    requires short { length pattern.now ≤ MAX_ROW_GATES }
     requires end { end ≤ length gates.now }
     requires next { count < length pattern.now }
     requires place { place < end }
@@ -174,8 +177,8 @@ fn extend_by_kind(
     count: usize,
     place: u32,
 ) -> Option<[u32; 8]>
-    requires few { length gates.now ≤ 1048576 }
-    requires short { length pattern.now ≤ 8 }
+    requires few { length gates.now ≤ MAX_GATES }
+    requires short { length pattern.now ≤ MAX_ROW_GATES }
     requires end { end ≤ length gates.now }
     requires next { count < length pattern.now }
     requires place { place < end }
@@ -200,8 +203,8 @@ fn extend(
     places: &[u32; 8],
     count: usize,
 ) -> Option<[u32; 8]>
-    requires few { length gates.now ≤ 1048576 }
-    requires short { length pattern.now ≤ 8 }
+    requires few { length gates.now ≤ MAX_GATES }
+    requires short { length pattern.now ≤ MAX_ROW_GATES }
     requires end { end ≤ length gates.now }
     requires next { count < length pattern.now }
     requires some { 0 < count }
@@ -233,7 +236,7 @@ fn extend(
 
 // The wires of the chosen gates, each by its remainder by 64, which other wires may have too.
 fn wires_used(gates: &[Gate], places: &[u32; 8], count: usize) -> [bool; 64]
-    requires few { count ≤ 8 }
+    requires few { count ≤ MAX_ROW_GATES }
     requires inside { (s : ℕ) → s < count → slice_index places.now s < length gates.now }
     ensures { (s w : ℕ) → s < count → Touches (gate_at gates.now (slice_index places.now s)) w → slice_index_or result (w % 64) false ≡ true }
 {
@@ -255,7 +258,7 @@ fn use_wires(used: &mut [bool; 64], gate: Gate)
 }
 
 // whether the gate shares no wire with those before it
-fn stands_apart(pattern: &[Gate], number: usize) -> bool
+pub(crate) fn stands_apart(pattern: &[Gate], number: usize) -> bool
     requires { number < length pattern.now }
     ensures { IsTrue result ↔ ((before : ℕ) → before < number → AreApart (gate_at pattern.now before) (gate_at pattern.now number)) }
 {
@@ -270,7 +273,7 @@ fn stands_apart(pattern: &[Gate], number: usize) -> bool
 // The next place where the walk has to look: the gate there may use a wire of the chosen gates, or is of the
 // kind of the next gate, where that is free to use other wires. All places before it are passed over.
 fn next_place(gates: &[Gate], used: &[bool; 64], free: bool, next: Gate, from: u32, end: u32) -> u32
-    requires few { length gates.now ≤ 1048576 }
+    requires few { length gates.now ≤ MAX_GATES }
     requires from { from ≤ end }
     requires end { end ≤ length gates.now }
     ensures behind { from ≤ result }
@@ -296,9 +299,9 @@ fn may_use(gate: Gate, used: &[bool; 64]) -> bool
 }
 
 // whether the gate at the last of the places fits to the pattern, and to the gates before it
-fn fits(gates: &[Gate], pattern: &[Gate], places: &[u32; 8], last: usize) -> bool
+pub(crate) fn fits(gates: &[Gate], pattern: &[Gate], places: &[u32; 8], last: usize) -> bool
     requires next { last < length pattern.now }
-    requires short { length pattern.now ≤ 8 }
+    requires short { length pattern.now ≤ MAX_ROW_GATES }
     requires inside { (s : ℕ) → s ≤ last → slice_index places.now s < length gates.now }
     ensures { IsTrue result ↔ IsFitting gates.now pattern.now places.now last }
 {
@@ -315,8 +318,8 @@ fn fits(gates: &[Gate], pattern: &[Gate], places: &[u32; 8], last: usize) -> boo
 }
 
 // whether the gate at the place commutes with all the chosen gates
-fn is_passable(gates: &[Gate], places: &[u32; 8], count: usize, place: u32) -> bool
-    requires few { count ≤ 8 }
+pub(crate) fn is_passable(gates: &[Gate], places: &[u32; 8], count: usize, place: u32) -> bool
+    requires few { count ≤ MAX_ROW_GATES }
     requires place { place < length gates.now }
     requires inside { (s : ℕ) → s < count → slice_index places.now s < length gates.now }
     ensures { IsTrue result ↔ IsPassable gates.now places.now count place }
@@ -392,7 +395,7 @@ fn kind(gate: Gate) -> usize
 }
 
 // whether the gates are of one kind: phases, by the same eighths
-fn are_of_one_kind(first: Gate, second: Gate) -> bool
+pub(crate) fn are_of_one_kind(first: Gate, second: Gate) -> bool
     ensures { IsTrue result ↔ (kind_of first ≡ kind_of second) }
 {
     match (first, second) {

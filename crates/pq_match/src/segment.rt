@@ -1,11 +1,10 @@
 ghost use Rattle.std.specs.Prelude.{◌≡◌, ◌<◌, ◌≤◌, [], ◌∷◌, ◌++◌, length, IfOk};
 
 use pq_gate::Gate;
-use std::alloc::{AllocError, Global};
+use pq_limits::MAX_SEGMENT;
+use pq_list::{OutOfMemory, crosses_threads};
+use std::alloc::Global;
 use std::marker::Model;
-
-/// The most gates that a segment has room for.
-pub const MAX_ROOM: u32 = 2048;
 
 /// A segment of a circuit that is being rewritten: a list of gates, and the room that was asked for.
 /// Contracts see both, as `items` and `room`. The room is taken once, and nothing that is done with the
@@ -18,20 +17,21 @@ pub struct Seg {
 
 impl Model for Seg {
     ghost use Rattle.std.specs.Prelude.{◌≤◌, vec_len, vec_capacity};
-    ghost use Rattle.pq_rules.specs.Roomed.{Roomed};
+    ghost use Rattle.pq_limits.specs.declared.TheConstants.{MAX_SEGMENT};
+    ghost use Rattle.pq_list.specs.Roomed.{Roomed};
     ghost use Rattle.pq_gate.specs.declared.gate.Gate.{Gate};
 
     ghost Value = { Roomed Gate };
 
     ghost view = { λ a. record { items = a.gates.items; room = a.asked } };
 
-    ghost invariant = { λ a. (vec_len a.gates ≤ a.asked) × (a.asked ≤ vec_capacity a.gates) × (a.asked ≤ 2048) };
+    ghost invariant = { λ a. (vec_len a.gates ≤ a.asked) × (a.asked ≤ vec_capacity a.gates) × (a.asked ≤ MAX_SEGMENT) };
 }
 
 impl Seg {
     /// An empty segment with room for `room` gates, at most 2,048. The room is taken here, once.
-    pub fn reserve(alloc: Global, room: u32) -> Result<Seg, AllocError>
-        requires { room ≤ MAX_ROOM }
+    pub fn reserve(alloc: Global, room: u32) -> Result<Seg, OutOfMemory>
+        requires { room ≤ MAX_SEGMENT }
         ensures items { IfOk result (λ made. made.items ≡ []) }
         ensures room { IfOk result (λ made. made.room ≡ room) }
     {
@@ -66,8 +66,13 @@ impl Seg {
     /// The gates, in circuit order.
     pub fn gates(&self) -> &[Gate]
         ensures gates { result.now ≡ self.now.items }
-        ensures few { length result.now ≤ MAX_ROOM }
+        ensures few { length result.now ≤ MAX_SEGMENT }
     {
         self.gates.as_slice()
     }
+}
+
+// A segment crosses threads.
+fn segments_cross_threads() {
+    crosses_threads::<Seg>();
 }
