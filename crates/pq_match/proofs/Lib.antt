@@ -24,4 +24,6 @@ pub mod SearchRow
 pub mod SearchNumbers
 pub mod SearchFrom
 pub mod SearchWithin
+pub mod SeekRow
+pub mod Starting
 pub mod RewritingTests

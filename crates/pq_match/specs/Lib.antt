@@ -12,4 +12,5 @@ pub mod First
 pub mod Rewrite
 pub mod Found
 pub mod Seek
+pub mod Segment
 pub mod Search

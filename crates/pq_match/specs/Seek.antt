@@ -70,3 +70,25 @@ pub record AreLedTo (gates : List Gate) (of_gate : Gate) (place : ℕ) (old new 
       IsNextOn gates (wire_of one (gate_at gates place)) (place + 1) (slice_index new.next (wire_of one of_gate))
   pub wires : (v : ℕ) → v ≢ wire_of false of_gate → v ≢ wire_of true of_gate → slice_index new.wires v ≡ slice_index old.wires v
   pub others : (v : ℕ) → v ≢ wire_of false of_gate → v ≢ wire_of true of_gate → slice_index new.next v ≡ slice_index old.next v
+
+-- For each start up to the length of the list: 0 where nothing is known of it, or how far a search looked that found no
+-- redex there.
+abbrev pub AreTried : List RowView → List Gate → List ℕ → Type 0
+AreTried rules gates tried = (start : ℕ) → start < length tried → 0 < slice_index tried start →
+    HasNoneAlike (StartsAt start) rules gates (slice_index tried start)
+
+-- what looked at no place from `first` on is kept
+pub record AreKept (first : ℕ) (old new : List ℕ) : Type 0 where
+  pub few : length new ≤ length old
+  pub kept : (start : ℕ) → start < length new → 0 < slice_index new start → (slice_index new start ≡ slice_index old start) × (slice_index new start ≤ first)
+
+-- the first redex that begins at the start, or none
+abbrev pub TriesStart : List RowView → List Gate → ℕ → Option Redex → Type 0
+TriesStart rules gates start found = FindsAmong (StartsAt start) rules gates found
+
+-- it was noted how far the search of a start looked
+pub record IsNoted (start reach : ℕ) (old new : List ℕ) : Type 0 where
+  pub more : start < length new
+  pub bound : (other : ℕ) → other < length new → other ≢ start → other < length old
+  pub here : slice_index new start ≡ reach
+  pub others : (other : ℕ) → other ≢ start → slice_index new other ≡ slice_index old other

@@ -10,9 +10,11 @@ mod rewriting_tests;
 mod search;
 mod seek;
 mod segment;
+mod starts;
 #[cfg(test)]
 mod tests;
 
 pub use redex::Redex;
-pub use search::{find_first, find_within};
+pub use search::find_within;
 pub use segment::Seg;
+pub use starts::find_first;

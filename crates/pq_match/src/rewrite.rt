@@ -1,6 +1,6 @@
 //! Rewriting a redex in place.
 
-ghost use Rattle.std.specs.Prelude.{◌≡◌, ℕ, ◌+◌, ◌<◌, ◌≤◌, ◌++◌, List, length, map, take, drop, slice_index, All, AllPairs};
+ghost use Rattle.std.specs.Prelude.{◌≡◌, ℕ, ◌+◌, ◌<◌, ◌≤◌, ◌++◌, List, length, map, take, drop, slice_index, All, AllPairs, vec_len, vec_capacity};
 ghost use Rattle.pq_gate.specs.Circuit.{IsOnWires, IsCircuit};
 ghost use Rattle.pq_gate.specs.Commuting.{Touches};
 ghost use Rattle.pq_gate.specs.Matrix.{Same};
@@ -8,6 +8,7 @@ ghost use Rattle.pq_rules.specs.Row.{Uses};
 ghost use Rattle.pq_rules.specs.Renaming.{renamed};
 ghost use Rattle.pq_match.specs.Redex.{IsMatch, gate_at, last_place};
 ghost use Rattle.pq_match.specs.Rewrite.{unchosen, rewritten};
+ghost use Rattle.pq_match.specs.Seek.{AreTried, AreKept};
 ghost use Rattle.pq_match.specs.Found.{IsRedexOf, Rewrites};
 ghost use Rattle.pq_match.specs.Wires.{first_wire, second_wire};
 
@@ -29,13 +30,30 @@ impl Seg {
         ensures turn { result < 8 }
         ensures shorter { length self.new.items < length self.old.items }
         ensures room { self.new.room ≡ self.old.room }
+        ensures tried { AreTried rules.now self.old.items self.old.tried → AreTried rules.now self.new.items self.new.tried }
     {
         let row = rules.row(redex.row).unwrap();
         let places = &redex.places[..redex.count as usize];
         let left = rewrite(self.gates.as_mut_slice(), places, row);
         self.gates.truncate(left);
+        self.links.build(self.gates.as_slice());
+        keep_tried(&mut self.tried, redex.places[0]);
         rewriting_keeps_the_matrix();
         row.phase()
+    }
+}
+
+/// Keeps what is known of the starts whose searches looked at no place from `first` on.
+fn keep_tried(tried: &mut Vec<u32>, first: u32)
+    ensures few { vec_len tried.new ≤ vec_len tried.old }
+    ensures room { vec_capacity tried.old ≤ vec_capacity tried.new }
+    ensures kept { AreKept first tried.old.items tried.new.items }
+{
+    tried.truncate(first as usize);
+    for entry in tried.as_mut_slice() {
+        if *entry > first {
+            *entry = 0;
+        }
     }
 }
 

@@ -6,22 +6,10 @@ ghost use Rattle.pq_match.specs.Found.{FindsAmong, FindsWithin, IsFirstFound};
 ghost use Rattle.pq_match.specs.Search.{AreApart, IsAlike, AreAlike, IsFitting, IsNext, HasKindsNear, IsPassable, IsGrown, FindsFull, AreEight, IsFrom, IsOfRow};
 
 use crate::redex::Redex;
-use crate::segment::Seg;
 use pq_links::wires_of;
 use pq_gate::{Eighths, Gate, commutes};
 use pq_limits::{MAX_GATES, MAX_ROW_GATES};
 use pq_rules::Rules;
-
-/// The first redex of a segment: the least first place, then the least row, then the least places in
-/// the order of a dictionary. None exactly where there is none. It takes no memory.
-#[tactic(auto, using(crate::proofs::OneFirst::none_of_all))]
-pub fn find_first(seg: &Seg, rules: &Rules) -> Option<Redex>
-    ensures none { result ≡ None ↔ HasNoRedex rules.now seg.now.items }
-    ensures first { IfSome result (λ redex. IsFirstFound rules.now seg.now.items (length seg.now.items) redex) }
-{
-    let gates = seg.gates();
-    find_within(gates, rules, gates.len() as u32)
-}
 
 /// The first redex of at most 1,048,576 gates whose last place minus its first place is less than
 /// `span`. None exactly where there is none. It takes no memory.
