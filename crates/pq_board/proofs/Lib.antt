@@ -1,1 +1,10 @@
 pub mod Listing
+pub mod Sums
+pub mod Ways
+pub mod Bounds
+pub mod Keeping
+pub mod Allowed
+pub mod Whole
+pub mod Climbing
+pub mod Closing
+pub mod Opening

@@ -1,1 +1,8 @@
+pub use Rattle.pq_list.specs.Roomed
+pub use Rattle.pq_limits.specs.Limits
+pub use Rattle.pq_array.specs.Counts
 pub mod Jobs
+pub mod Sums
+pub mod Ways
+pub mod Law
+pub mod Steps

@@ -1,9 +1,18 @@
 //! What the workers of a round share: the jobs, which are lists of places.
 #![tactic(auto)]
 
+mod board;
 mod jobs;
+mod pass;
+mod plan;
+mod receipt;
+mod rule;
 #[cfg(test)]
 mod tests;
 
+pub use board::{Board, Closed, Unopened};
 pub use jobs::Jobs;
+pub use pass::Pass;
+pub use plan::{Lowering, Plan, View};
 pub use pq_limits::MAX_JOBS;
+pub use receipt::Receipt;

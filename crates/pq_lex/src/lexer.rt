@@ -5,10 +5,8 @@ ghost use Rattle.pq_lex.specs.Lex.{Position, tokens, moved, next_line, tokens_of
 
 use crate::front::{blank_front, token_front};
 use crate::token::{Form, Token};
+use pq_limits::MAX_INPUT;
 use std::marker::Model;
-
-/// The most bytes that a text has.
-pub const MAX_TEXT: usize = 67_108_864;
 
 /// A cursor in a text. Contracts see what is left of the text, and the place where that begins.
 #[derive(Drop)]
@@ -32,7 +30,7 @@ impl<'t> Model for Lexer<'t> {
 impl<'t> Lexer<'t> {
     /// A cursor at the front of a text.
     pub fn new(text: &'t [u8]) -> Lexer<'t>
-        requires { length text.now ≤ MAX_TEXT }
+        requires { length text.now ≤ MAX_INPUT }
         ensures position { result ≡ record { rest = text.entry.now; line = 1; column = 1 } }
         ensures tokens { tokens result ≡ tokens_of text.entry.now }
     {

@@ -6,4 +6,5 @@ pub use Rattle.pq_oracle.specs.Ora
 pub use Rattle.pq_method.specs.Round
 pub use Rattle.pq_method.specs.Opt
 pub mod Loops
+pub mod Counted
 pub mod Segments

@@ -70,7 +70,7 @@ pub struct Finished {
 
 impl Loop {
     /// The loop before its first round: the first fingers stand at each multiple of Omega that is less than
-    /// the number of gates. Omega is 2 to 1,024, and there are at most 1,048,576 gates.
+    /// the number of gates, and overlook nothing. Omega is 2 to 1,024, and there are at most 1,048,576 gates.
     #[tactic(auto, using(crate::proofs::Kept::opened_state))]
     pub fn open(alloc: Global, gates: &[Gate], omega: u32, rules: Rules) -> Result<Loop, AllocError>
         requires least { 2 ≤ omega }
@@ -81,6 +81,7 @@ impl Loop {
         ensures rules { IfOk result (λ made. made.rules ≡ rules) }
         ensures counts { IfOk result (λ made. (made.rounds ≡ 0) × (made.calls ≡ 0) × (made.phase ≡ 0)) }
         ensures first_fingers { IfOk result (λ made. made.first_fingers ≡ length (first_fingers (length gates.now) omega)) }
+        ensures covered { IfOk result (λ made. IsCovered made) }
     {
         // the rows are sound
         let _rows = rules.count();
@@ -152,13 +153,14 @@ impl Loop {
         Ok((after, step))
     }
 
-    /// What is left, where there is no finger any more: no run of at most Omega gates has a redex. Where memory is
-    /// refused, the loop is spent.
+    /// What is left, where there is no finger any more: no run of at most Omega gates has a redex. There were at most
+    /// as many rounds as calls. Where memory is refused, the loop is spent.
     pub fn finish(self, alloc: Global) -> Result<Finished, AllocError>
         requires { self.state.fingers ≡ [] }
         ensures gates { IfOk result (λ made. made.gates.items ≡ self.state.gates) }
         ensures counts { IfOk result (λ made. (made.rounds ≡ self.rounds) × (made.calls ≡ self.calls) × (made.phase ≡ self.phase) × (made.first_fingers ≡ self.first_fingers)) }
         ensures local { IfOk result (λ made. Local self.rules self.omega made.gates.items) }
+        ensures rounds { IfOk result (λ made. made.rounds ≤ made.calls) }
     {
         let gates = live_gates(alloc, &self.array)?;
         Ok(Finished {

@@ -1,6 +1,6 @@
 -- There is at most one first redex.
 use Rattle.std.proofs.Common.{◌≡◌, ℕ, zero, suc, ◌<◌, List, [], ◌∷◌, length, get_or, inl, inr, refl, ap, sym, subst, ◌∙◌, arith}
-use Rattle.std.specs.Prelude.{◌↔◌, All, Option, Some, None}
+use Rattle.std.specs.Prelude.{All, Option, Some, None}
 use Rattle.std.proofs.lemmas.List.{ext_get_or}
 use Rattle.std.proofs.lemmas.Option.{slice_get_within, get_or_from_slice_get}
 use Rattle.pq_gate.specs.declared.gate.Gate.{Gate}
@@ -9,8 +9,6 @@ use Rattle.pq_gate.specs.Commuting.{Touches}
 use Rattle.pq_rules.specs.Row.{RowView, Uses, IsSound}
 use Rattle.pq_rules.specs.Renaming.{renamed}
 use Rattle.pq_rules.specs.Kinds.{row_numbered}
-use Rattle.pq_match.specs.declared.redex.Redex.{Redex}
-use Rattle.pq_match.specs.Found.{seen, FindsWithin}
 use Rattle.pq_match.specs.Redex.{RedexView, IsRedex, IsMatch, IsWithin, HasNoRedex, last_place}
 use Rattle.pq_match.specs.First.{Precedes, key, IsFirst, HasNoneWithin, FirstWithin}
 use Rattle.pq_match.proofs.RewritingWires.{places_long, chosen_at}
@@ -116,9 +114,3 @@ redex_within_all rules gates redex is = omega (arith, last_inside (length gates)
 -- a list without a redex within its length has none
 pub first_of_all : (rules : List RowView) (gates : List Gate) → HasNoneWithin rules gates (length gates) → HasNoRedex rules gates
 first_of_all rules gates none redex is = none.none redex is (redex_within_all rules gates redex is)
-
--- so the first redex that was found within its length is none exactly where there is none
-pub none_of_all : (rules : List RowView) (gates : List Gate) (found : Option Redex) → FindsWithin rules gates (length gates) found →
-    found ≡ None ↔ HasNoRedex rules gates
-none_of_all rules gates None none = (λ same. first_of_all rules gates none, λ free. refl)
-none_of_all rules gates (Some redex) first = (λ same. absurd (cc), λ free. absurd (free (seen redex first.wires) first.first.is))

@@ -1,5 +1,6 @@
 -- What the search for the first redex goes by: the places of a pattern's gates, without the wires.
 use Rattle.std.specs.Prelude.{◌≡◌, ◌≢◌, ℕ, ◌<◌, ◌≤◌, ◌↔◌, Bool, true, false, List, [], ◌∷◌, length, slice_index, slice_index_or, Option, Some, None}
+use Rattle.pq_limits.specs.declared.TheConstants.{MAX_ROW_GATES}
 use Rattle.pq_gate.specs.declared.gate.Gate.{Gate}
 use Rattle.pq_gate.specs.Commuting.{Touches, Commutes}
 use Rattle.pq_rules.specs.Kinds.{kind_of}
@@ -74,7 +75,7 @@ pub record IsBefore (count : ℕ) (places other : List ℕ) : Type 0 where
 
 -- eight places, of which those past `count` are 0
 pub record AreEight (places : List ℕ) (count : ℕ) : Type 0 where
-  pub eight : length places ≡ 8
+  pub eight : length places ≡ MAX_ROW_GATES
   pub rest : (s : ℕ) → count ≤ s → slice_index places s ≡ 0
 
 -- the least places of all the pattern's gates that begin in this way

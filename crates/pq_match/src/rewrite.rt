@@ -17,7 +17,11 @@ use crate::redex::Redex;
 use crate::segment::Seg;
 use pq_links::wires_of;
 use pq_gate::Gate;
+use pq_limits::MAX_ROW_WIRES;
 use pq_rules::{Row, Rules};
+
+// the most wires of a row, as a length
+const ROW_WIRES: usize = MAX_ROW_WIRES as usize;
 
 impl Seg {
     /// Rewrites a redex, in place: the chosen gates leave, and the replacement stands where the last of
@@ -77,14 +81,14 @@ fn rewrite(gates: &mut [Gate], places: &[u32], row: &Row) -> usize
 }
 
 /// Where the wires of the pattern are led to by the gates at the places.
-fn read_wires(gates: &[Gate], places: &[u32], pattern: &[Gate]) -> [u32; 3]
+fn read_wires(gates: &[Gate], places: &[u32], pattern: &[Gate]) -> [u32; ROW_WIRES]
     requires count { length places.now ≡ length pattern.now }
     requires inside { All (λ place. place < length gates.now) places.now }
-    requires on_wires { IsCircuit 3 pattern.now }
+    requires on_wires { IsCircuit MAX_ROW_WIRES pattern.now }
     ensures { (wires : List ℕ) → map (gate_at gates.now) places.now ≡ map (renamed wires) pattern.now →
         (w : ℕ) → Uses pattern.now w → slice_index result w ≡ slice_index wires w }
 {
-    let mut wires = [0; 3];
+    let mut wires = [0; ROW_WIRES];
     for (index, gate) in pattern.iter().enumerate() {
         lead(&mut wires, *gate, gates[places[index] as usize]);
     }
@@ -92,8 +96,8 @@ fn read_wires(gates: &[Gate], places: &[u32], pattern: &[Gate]) -> [u32; 3]
 }
 
 /// Leads the wires of a gate to those of another gate.
-fn lead(wires: &mut [u32; 3], gate: Gate, to: Gate)
-    requires { IsOnWires 3 gate }
+fn lead(wires: &mut [u32; ROW_WIRES], gate: Gate, to: Gate)
+    requires { IsOnWires MAX_ROW_WIRES gate }
     ensures touched { (e : List ℕ) → to ≡ renamed e gate → (w : ℕ) → Touches gate w →
         slice_index wires.new w ≡ slice_index e w }
     ensures others { (e : List ℕ) → to ≡ renamed e gate → (w : ℕ) → slice_index wires.old w ≡ slice_index e w →
@@ -131,9 +135,9 @@ fn close_up(gates: &mut [Gate], places: &[u32], end: usize) -> usize
 }
 
 /// Puts gates, their wires renamed, from a place on.
-fn put(gates: &mut [Gate], start: usize, replacement: &[Gate], wires: &[u32; 3])
+fn put(gates: &mut [Gate], start: usize, replacement: &[Gate], wires: &[u32; ROW_WIRES])
     requires room { start + length replacement.now ≤ length gates.old }
-    requires on_wires { IsCircuit 3 replacement.now }
+    requires on_wires { IsCircuit MAX_ROW_WIRES replacement.now }
     ensures front { take (start + length replacement.now) gates.new ≡ take start gates.old ++ map (renamed wires.now) replacement.now }
     ensures rest { drop (start + length replacement.now) gates.new ≡ drop (start + length replacement.now) gates.old }
 {
@@ -143,8 +147,8 @@ fn put(gates: &mut [Gate], start: usize, replacement: &[Gate], wires: &[u32; 3])
 }
 
 /// The gate with its wires renamed.
-fn rename(gate: Gate, wires: &[u32; 3]) -> Gate
-    requires { IsOnWires 3 gate }
+fn rename(gate: Gate, wires: &[u32; ROW_WIRES]) -> Gate
+    requires { IsOnWires MAX_ROW_WIRES gate }
     ensures { result ≡ renamed wires.now gate }
 {
     match gate {

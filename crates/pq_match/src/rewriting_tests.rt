@@ -7,9 +7,9 @@ ghost use Rattle.pq_match.specs.Found.{IsRedexOf};
 use crate::redex::Redex;
 use crate::segment::Seg;
 use pq_gate::{Eighths, Gate};
-use pq_rules::Rules;
-use pq_limits::MAX_SEGMENT;
+use pq_limits::{MAX_ROW_GATES, MAX_SEGMENT};
 use pq_list::OutOfMemory;
+use pq_rules::Rules;
 use std::alloc::Global;
 use std::process::Abort;
 use std::test::Fail;
@@ -85,7 +85,7 @@ fn rewrites_to(
     gates: &[Gate],
     row: u32,
     count: u8,
-    places: [u32; 8],
+    places: [u32; MAX_ROW_GATES],
     new: &[Gate],
     turn: u8,
 ) -> Result<(), OutOfMemory>

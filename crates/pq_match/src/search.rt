@@ -1,4 +1,4 @@
-ghost use Rattle.std.specs.Prelude.{◌≡◌, ℕ, ◌+◌, ◌%◌, ◌<◌, ◌≤◌, ◌↔◌, IsTrue, IfSome, None, true, false, length, slice_index, slice_index_or, slice_set};
+ghost use Rattle.std.specs.Prelude.{◌≡◌, ℕ, ◌+◌, ◌%◌, ◌<◌, ◌≤◌, ◌↔◌, IsTrue, IfSome, IfNone, true, false, length, slice_index, slice_index_or, slice_set};
 ghost use Rattle.pq_gate.specs.Commuting.{Touches, Commutes};
 ghost use Rattle.pq_rules.specs.Kinds.{kind_of};
 ghost use Rattle.pq_match.specs.Redex.{HasNoRedex, gate_at};
@@ -6,8 +6,8 @@ ghost use Rattle.pq_match.specs.Found.{FindsAmong, FindsWithin, IsFirstFound};
 ghost use Rattle.pq_match.specs.Search.{AreApart, IsAlike, AreAlike, IsFitting, IsNext, HasKindsNear, IsPassable, IsGrown, FindsFull, AreEight, IsFrom, IsOfRow};
 
 use crate::redex::Redex;
-use pq_links::wires_of;
 use pq_gate::{Eighths, Gate, commutes};
+use pq_links::wires_of;
 use pq_limits::{MAX_GATES, MAX_ROW_GATES};
 use pq_rules::Rules;
 
@@ -96,7 +96,7 @@ fn find_row(
     if second < pattern.len() && !near[kind(pattern[second])] {
         return None;
     }
-    let Some(places) = extend_at(gates, pattern, end, &[0; 8], 0, start) else {
+    let Some(places) = extend_at(gates, pattern, end, &[0; MAX_ROW_GATES], 0, start) else {
         return None;
     };
     Some(Redex {
@@ -129,10 +129,10 @@ fn extend_at(
     gates: &[Gate],
     pattern: &[Gate],
     end: u32,
-    places: &[u32; 8],
+    places: &[u32; MAX_ROW_GATES],
     count: usize,
     place: u32,
-) -> Option<[u32; 8]>
+) -> Option<[u32; MAX_ROW_GATES]>
     requires few { length gates.now ≤ MAX_GATES }
     requires short { length pattern.now ≤ MAX_ROW_GATES }
     requires end { end ≤ length gates.now }
@@ -161,10 +161,10 @@ fn extend_by_kind(
     gates: &[Gate],
     pattern: &[Gate],
     end: u32,
-    places: &[u32; 8],
+    places: &[u32; MAX_ROW_GATES],
     count: usize,
     place: u32,
-) -> Option<[u32; 8]>
+) -> Option<[u32; MAX_ROW_GATES]>
     requires few { length gates.now ≤ MAX_GATES }
     requires short { length pattern.now ≤ MAX_ROW_GATES }
     requires end { end ≤ length gates.now }
@@ -188,9 +188,9 @@ fn extend(
     gates: &[Gate],
     pattern: &[Gate],
     end: u32,
-    places: &[u32; 8],
+    places: &[u32; MAX_ROW_GATES],
     count: usize,
-) -> Option<[u32; 8]>
+) -> Option<[u32; MAX_ROW_GATES]>
     requires few { length gates.now ≤ MAX_GATES }
     requires short { length pattern.now ≤ MAX_ROW_GATES }
     requires end { end ≤ length gates.now }
@@ -223,7 +223,7 @@ fn extend(
 }
 
 // The wires of the chosen gates, each by its remainder by 64, which other wires may have too.
-fn wires_used(gates: &[Gate], places: &[u32; 8], count: usize) -> [bool; 64]
+fn wires_used(gates: &[Gate], places: &[u32; MAX_ROW_GATES], count: usize) -> [bool; 64]
     requires few { count ≤ MAX_ROW_GATES }
     requires inside { (s : ℕ) → s < count → slice_index places.now s < length gates.now }
     ensures { (s w : ℕ) → s < count → Touches (gate_at gates.now (slice_index places.now s)) w → slice_index_or result (w % 64) false ≡ true }
@@ -287,7 +287,7 @@ fn may_use(gate: Gate, used: &[bool; 64]) -> bool
 }
 
 // whether the gate at the last of the places fits to the pattern, and to the gates before it
-pub(crate) fn fits(gates: &[Gate], pattern: &[Gate], places: &[u32; 8], last: usize) -> bool
+pub(crate) fn fits(gates: &[Gate], pattern: &[Gate], places: &[u32; MAX_ROW_GATES], last: usize) -> bool
     requires next { last < length pattern.now }
     requires short { length pattern.now ≤ MAX_ROW_GATES }
     requires inside { (s : ℕ) → s ≤ last → slice_index places.now s < length gates.now }
@@ -306,7 +306,7 @@ pub(crate) fn fits(gates: &[Gate], pattern: &[Gate], places: &[u32; 8], last: us
 }
 
 // whether the gate at the place commutes with all the chosen gates
-pub(crate) fn is_passable(gates: &[Gate], places: &[u32; 8], count: usize, place: u32) -> bool
+pub(crate) fn is_passable(gates: &[Gate], places: &[u32; MAX_ROW_GATES], count: usize, place: u32) -> bool
     requires few { count ≤ MAX_ROW_GATES }
     requires place { place < length gates.now }
     requires inside { (s : ℕ) → s < count → slice_index places.now s < length gates.now }

@@ -1,6 +1,6 @@
 //! The first redex of a segment, start by start.
 
-ghost use Rattle.std.specs.Prelude.{◌≡◌, ◌+◌, ◌<◌, ◌≤◌, ◌↔◌, None, length, IfSome, vec_len, vec_capacity};
+ghost use Rattle.std.specs.Prelude.{◌≡◌, ◌+◌, ◌<◌, ◌≤◌, ◌↔◌, None, length, IfSome, IfNone, vec_len, vec_capacity};
 ghost use Rattle.pq_match.specs.Redex.{HasNoRedex};
 ghost use Rattle.pq_match.specs.Found.{IsFirstFound, FindsWithin};
 ghost use Rattle.pq_match.specs.Seek.{AreTried, TriesStart, IsNoted};
@@ -12,9 +12,9 @@ use pq_rules::Rules;
 
 /// The first redex of a segment: the least first place, then the least row, then the least places in
 /// the order of a dictionary. None exactly where there is none. It takes no memory.
-#[tactic(auto, using(crate::proofs::OneFirst::none_of_all, crate::proofs::Starting::below_none, crate::proofs::Starting::below_more, crate::proofs::Starting::below_first, crate::proofs::Starting::below_all))]
+#[tactic(auto, using(crate::proofs::OneFirst::first_of_all))]
 pub fn find_first(seg: &Seg, rules: &Rules) -> Option<Redex>
-    ensures none { result ≡ None ↔ HasNoRedex rules.now seg.now.items }
+    ensures none { IfNone result (HasNoRedex rules.now seg.now.items) }
     ensures first { IfSome result (λ redex. IsFirstFound rules.now seg.now.items (length seg.now.items) redex) }
 {
     first_redex(seg, rules)

@@ -1,7 +1,7 @@
 use crate::{Redex, Seg, find_first, find_within};
 use pq_gate::{Eighths, Gate};
-use pq_rules::Rules;
 use pq_list::OutOfMemory;
+use pq_rules::Rules;
 use std::alloc::Global;
 use std::process::Abort;
 use std::test::Fail;

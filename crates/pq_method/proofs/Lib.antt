@@ -3,7 +3,7 @@ pub mod OneRound
 pub mod Joining
 pub mod Keeping
 pub mod Falling
-pub mod OneOpt
 pub mod Covering
+pub mod OneOpt
 pub mod Shortening
 pub mod Ending

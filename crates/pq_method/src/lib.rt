@@ -6,5 +6,8 @@
 mod laws;
 mod step;
 
-pub use laws::{opt_has_one_result, opt_is_local, rounds_have_one_result, rounds_keep_cover};
+pub use laws::{
+    first_fingers_cover, opt_has_one_result, opt_is_local, rounds_have_one_result,
+    rounds_keep_cover,
+};
 pub use step::Step;

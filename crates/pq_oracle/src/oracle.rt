@@ -20,7 +20,7 @@ pub struct Outcome {
 
 /// Rewrites the first redex of a segment, again and again, until there is none: the segment becomes the
 /// oracle's answer to it. It takes no memory.
-#[tactic(auto, using(crate::proofs::Improving::found_redex, crate::proofs::Improving::led_yet, crate::proofs::Improving::led_on, crate::proofs::Improving::led_oracle, crate::proofs::Improving::led_clean))]
+#[tactic(auto, using(crate::proofs::Improving::found_redex, crate::proofs::Improving::led_yet, crate::proofs::Improving::led_on, crate::proofs::Improving::led_oracle))]
 pub fn improve(rules: &Rules, seg: &mut Seg) -> Outcome
     ensures oracle { Ora rules.now seg.old.items (answer_of seg.new.items result) }
     ensures clean { HasNoRedex rules.now seg.new.items }

@@ -11,6 +11,7 @@ use crate::refusal::{Kind, ReadError, Refusal};
 use crate::registers::Registers;
 use crate::token::{demand, integer, is_next, refused};
 use pq_lex::{Form, Lexer, Token};
+use pq_limits::MAX_PLACES;
 
 /// Where a register's places begin, and how many it has.
 #[derive(Clone, Copy)]
@@ -33,7 +34,7 @@ pub struct Argument {
 // What follows `[` in an argument.
 #[tactic(auto, unfolding(crate::specs::Arguments::indexed_at))]
 fn read_index(lexer: &mut Lexer, span: Span, name: &Token) -> Result<Argument, ReadError>
-    requires { span.first + span.size ≤ 4096 }
+    requires { span.first + span.size ≤ MAX_PLACES }
     ensures read { Gives (λ a. (a, left lexer.new)) result (indexed_at span (seen name.now) (left lexer.old)) }
     ensures later { OnOk result (later lexer.new ≡ later lexer.old) }
     ensures told { IfOk result IsArgument }
@@ -79,7 +80,7 @@ impl Argument {
     #[inline(always)]
     pub fn place(&self, k: u32) -> u32
         requires kept { IsArgument self.now }
-        requires instance { k < 4096 }
+        requires instance { k < MAX_PLACES }
         ensures { result ≡ place_at self.now k }
     {
         if self.whole {
@@ -110,7 +111,7 @@ fn differ(a: &Argument, b: &Argument) -> bool
 
 // Whether a place is one of `count` places from `first` on.
 fn is_in(first: u32, count: u32, place: u32) -> bool
-    requires { first + count ≤ 4096 }
+    requires { first + count ≤ MAX_PLACES }
     ensures { result ≡ is_in_span first count place }
 {
     first <= place && place < first + count

@@ -20,9 +20,9 @@ use crate::tail_statement::{read_barrier, read_measure};
 use crate::token::{demand, is_next, refused};
 use crate::word::{FirstWord, GateWord, read_first_word};
 use pq_gate::{Gate, GateList};
-use pq_lex::{Form, Lexer, MAX_TEXT, Token};
+use pq_lex::{Form, Lexer, Token};
+use pq_limits::{MAX_GATES, MAX_INPUT};
 use pq_list::RoomList;
-use pq_text::MAX_GATES;
 use std::alloc::Global;
 
 /// What has been read of a text.
@@ -123,7 +123,7 @@ impl Reader {
                     &self.classical,
                     &self.quantum,
                 )?;
-                self.quantum.push(register)?;
+                self.quantum.push(alloc, register)?;
                 Ok(())
             }
             FirstWord::Creg => {
@@ -135,7 +135,7 @@ impl Reader {
                     &self.classical,
                     &self.classical,
                 )?;
-                self.classical.push(register)?;
+                self.classical.push(alloc, register)?;
                 Ok(())
             }
             FirstWord::Barrier => {
@@ -222,7 +222,7 @@ fn read_pieces(alloc: Global, lexer: &mut Lexer, options: Options) -> Result<Rea
 /// which is well formed. Where the text isn't accepted, the answer is its first fault. Want of memory may
 /// come at any moment before, and is then the answer.
 pub fn read_text(alloc: Global, text: &[u8], options: Options) -> Result<Program, ReadError>
-    requires { length text.now ≤ MAX_TEXT }
+    requires { length text.now ≤ MAX_INPUT }
     ensures read { IfOk result (λ p. Reads text.now options (view p)) }
     ensures well_formed { IfOk result (λ p. WellFormed (view p)) }
     ensures refused { IfErr result (IsRefusedFor text.now options) }

@@ -16,6 +16,7 @@ pub use Rattle.pq_loop.specs.Redex
 pub use Rattle.pq_loop.specs.Ora
 pub use Rattle.pq_loop.specs.Round
 pub use Rattle.pq_loop.specs.Opt
+pub use Rattle.pq_loop.specs.Counted
 pub use Rattle.pq_write.specs.Report
 pub use Rattle.pq_generate.specs.Generated
 pub use Rattle.pq_command.specs.CommandLine

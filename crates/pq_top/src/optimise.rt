@@ -1,9 +1,10 @@
 ghost use Rattle.std.specs.Prelude.{◌≡◌, false, ◌+◌, ◌-◌, ◌*◌, ◌≤◌, length, IfOk, IfErr};
 ghost use Rattle.pq_loop.specs.Gaps.{first_fingers};
-ghost use Rattle.pq_loop.specs.Opt.{Opt, Local};
+ghost use Rattle.pq_loop.specs.Opt.{Local};
+ghost use Rattle.pq_loop.specs.Counted.{IsEndOf};
 ghost use Rattle.pq_read.specs.Reads.{IsRefusedFor};
 ghost use Rattle.pq_rules.specs.Table.{builtin_rows};
-ghost use Rattle.pq_top.specs.Outputs.{input_limit, total_of, KeepsMatrix, IsOptText, IsBenchText};
+ghost use Rattle.pq_top.specs.Outputs.{input_limit, KeepsMatrix, IsOptText, IsBenchText};
 ghost use Rattle.pq_generate.specs.Generated.{generated};
 ghost use Rattle.pq_text.specs.Print.{print};
 
@@ -109,7 +110,7 @@ fn run_rounds(alloc: Global, gates: &[Gate], omega: u32) -> Result<Finished, All
     requires least { 2 ≤ omega }
     requires most { omega ≤ 1024 }
     requires few { length gates.now ≤ 1048576 }
-    ensures opt { IfOk result (λ finished. Opt builtin_rows omega gates.now (total_of finished)) }
+    ensures opt { IfOk result (λ finished. IsEndOf builtin_rows omega gates.now finished) }
     ensures same { IfOk result (λ finished. KeepsMatrix gates.now finished.gates.items finished.phase) }
     ensures local { IfOk result (λ finished. Local builtin_rows omega finished.gates.items) }
     ensures shorter { IfOk result (λ finished. length finished.gates.items ≤ length gates.now) }

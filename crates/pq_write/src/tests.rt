@@ -6,7 +6,7 @@ use crate::program::HEADER;
 use crate::report::REPORT_ROOM;
 use crate::{ReportNumbers, write_program, write_report, write_with_report};
 use pq_io::ByteList;
-use pq_lex::MAX_TEXT;
+use pq_limits::MAX_INPUT;
 use pq_read::{Options, Program, read_text};
 use std::alloc::{AllocError, Global};
 
@@ -14,7 +14,7 @@ use std::alloc::{AllocError, Global};
 fn read(alloc: Global, text: &[u8]) -> Option<Program>
     ensures { IfSome result (λ p. WellFormed (view p)) }
 {
-    if text.len() > MAX_TEXT {
+    if text.len() as u64 > MAX_INPUT {
         return None;
     }
     let options = Options {

@@ -1,0 +1,14 @@
+use Rattle.std.proofs.Common.{◌≡◌, ◌+◌, ◌<◌, ◌≤◌, length, sym, ap, ◌∙◌, arith}
+use Rattle.pq_board.specs.Steps.{BelongsTo, with_ticket}
+use Rattle.pq_board.proofs.Allowed.{claim_allowed, plan_words}
+use Rattle.pq_board.proofs.board.Board.claim.Goals as goal
+
+pub fetch_add-ticket-requires : goal.fetch_add-ticket-requires
+fetch_add-ticket-requires c =
+    let belongs = rw (← c.self.view_is, ← c.pass.view_is) at c.requires.belongs in
+    let right = rw (← c.pass.view_is) at c.requires.right in
+    let inv = c.self.invariant in (
+      belongs.here,
+      omega (arith, inv.1, plan_words c.self.inside.plan inv.3),
+      claim_allowed c.self.inside.table.shared.key c.self.inside.table.shared.table_id.slots c.pass.inside.seat.id c.pass.inside.seat.me (inv.0 ∙ sym belongs.plan) right,
+    )
