@@ -318,5 +318,5 @@ pushed gates gate old new first second last_first last_second buckets mid led be
     before buckets are (one_before ∙ ap (λ (w : ℕ). get_or old.heads (w % buckets) 0) first_is) (other_before ∙ ap (λ (w : ℕ). get_or old.heads (w % buckets) 0) second_is) long new.room)))
 
 -- what is left of a list whose whole front was written
-pub all_written : (n : ℕ) (xs ys : List Sides) → n ≡ length xs → take n (xs ++ drop (length xs) ys) ≡ xs
+pub all_written : {X : Type 0} (n : ℕ) (xs ys : List X) → n ≡ length xs → take n (xs ++ drop (length xs) ys) ≡ xs
 all_written n xs ys same = take-append-le n xs (drop (length xs) ys) (omega arith) ∙ (ap (λ (k : ℕ). take k xs) same ∙ take-length xs)

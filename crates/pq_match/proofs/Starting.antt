@@ -2,7 +2,8 @@
 use Rattle.std.proofs.Common.{◌≡◌, ℕ, ◌+◌, ◌-◌, ◌<◌, ◌≤◌, ◌⊎◌, inl, inr, List, ◌++◌, length, map, get_or, take, drop, refl, sym, ap, subst, ◌∙◌, arith, append_assoc}
 use Rattle.std.specs.List.{AllPairs}
 use Rattle.std.proofs.lemmas.Bool.{cases_order}
-use Rattle.std.proofs.lemmas.List.{take-append-drop, take-append-le, take-take, length-take}
+use Rattle.std.proofs.Common.{length-take}
+use Rattle.std.proofs.lemmas.List.{take-append-drop, take-append-le, take-take}
 use Rattle.std.proofs.Math.Seq.{take-length}
 use Rattle.pq_gate.specs.declared.gate.Gate.{Gate}
 use Rattle.pq_rules.specs.Renaming.{renamed}
@@ -12,7 +13,7 @@ use Rattle.pq_match.specs.Redex.{RedexView, IsRedex, IsWithin, last_place}
 use Rattle.pq_match.specs.First.{Precedes, key, HasNoneAmong, HasNoneWithin}
 use Rattle.pq_match.specs.Found.{seen, IsFoundAmong, IsFirstFound}
 use Rattle.pq_match.specs.Rewrite.{unchosen, rewritten}
-use Rattle.pq_match.specs.Seek.{BeginAlike, HasNoneAlike, StartsAt, AreTried}
+use Rattle.pq_match.specs.Seek.{BeginAlike, HasNoneAlike, StartsAt, AreTried, AreKept, IsNoted}
 use Rattle.pq_match.proofs.OneFirst.{redex_within_all}
 use Rattle.pq_match.proofs.RewritingPlaces.{unchosen-append, unchosen_none, before_first, first_upto_last}
 
@@ -23,14 +24,17 @@ pub record NoneBelow (rules : List RowView) (gates : List Gate) (start : ℕ) : 
 pub below_none : (rules : List RowView) (gates : List Gate) → NoneBelow rules gates 0
 below_none rules gates = record { none = λ redex is. omega arith }
 
-pub below_more : {rules : List RowView} {gates : List Gate} {start reach : ℕ} → NoneBelow rules gates start → HasNoneAlike (StartsAt start) rules gates reach → NoneBelow rules gates (start + 1)
-below_more {rules} {gates} {start} {reach} before none = record { none = λ redex is. by redex is (before.none redex is) (cases_order (get_or redex.places 0 0) start) }
+pub below_none_at : {rules : List RowView} {gates : List Gate} {start : ℕ} → NoneBelow rules gates start → HasNoneAmong (StartsAt start) rules gates → NoneBelow rules gates (start + 1)
+below_none_at {rules} {gates} {start} before none = record { none = λ redex is. by redex is (before.none redex is) (cases_order (get_or redex.places 0 0) start) }
   where
     by : (redex : RedexView) → IsRedex rules gates redex → start ≤ get_or redex.places 0 0 →
         (get_or redex.places 0 0 ≡ start) ⊎ ((get_or redex.places 0 0 < start) ⊎ (start < get_or redex.places 0 0)) → start + 1 ≤ get_or redex.places 0 0
-    by redex is upto (inl same) = absurd ((none.none gates refl).none redex is same)
+    by redex is upto (inl same) = absurd (none.none redex is same)
     by redex is upto (inr (inl less)) = absurd (omega arith)
     by redex is upto (inr (inr more)) = omega arith
+
+pub below_more : {rules : List RowView} {gates : List Gate} {start reach : ℕ} → NoneBelow rules gates start → HasNoneAlike (StartsAt start) rules gates reach → NoneBelow rules gates (start + 1)
+below_more {rules} {gates} before none = below_none_at before (none.none gates refl)
 
 pub below_first : {rules : List RowView} {gates : List Gate} {start : ℕ} {redex : Redex} → NoneBelow rules gates start → IsFoundAmong (StartsAt start) rules gates redex →
     IsFirstFound rules gates (length gates) redex
@@ -92,3 +96,34 @@ front_kept gates replacement redex rising inside =
     ap (λ (xs : List Gate). xs ++ behind) kept ∙ append_assoc (take first gates) (unchosen redex.places (0 + length (take first gates)) (drop first (take end gates))) behind in
     sym (ap (λ (xs : List Gate). take first xs) whole ∙ (take-append-le first (take first gates) (unchosen redex.places (0 + length (take first gates)) (drop first (take end gates)) ++ behind) (omega arith)
     ∙ take-take first first gates (omega arith)))
+
+-- what is known of starts stays known where what was looked at stays
+pub tried_kept : (rules : List RowView) (old new : List Gate) (before after : List ℕ) (first : ℕ) → BeginAlike first old new → AreKept first before after →
+    AreTried rules old before → AreTried rules new after
+tried_kept rules old new before after first alike kept tried start below known =
+    let same = (kept.kept start below known).0 in
+    let near : get_or after start 0 ≤ first = (kept.kept start below known).1 in
+    let w : length after ≡ length before = kept.whole in
+    kept_alike first alike near
+    (subst (λ (r : ℕ). HasNoneAlike (StartsAt start) rules old r) (sym same) (tried start (omega arith) (omega arith)))
+
+-- one start more
+pub tried_noted : {rules : List RowView} {gates : List Gate} {before after : List ℕ} {start reach : ℕ} → IsNoted start reach before after → HasNoneAlike (StartsAt start) rules gates reach →
+    AreTried rules gates before → AreTried rules gates after
+tried_noted {rules} {gates} {before} {after} {start} {reach} noted none tried other below known = by (cases_order other start)
+  where
+    elsewhere : (other ≡ start → ⊥) → HasNoneAlike (StartsAt other) rules gates (get_or after other 0)
+    elsewhere differs =
+        let same : get_or after other 0 ≡ get_or before other 0 = noted.others other differs in
+        subst (λ (r : ℕ). HasNoneAlike (StartsAt other) rules gates r) (sym same) (tried other (noted.bound other below differs) (omega arith))
+
+    by : (other ≡ start) ⊎ ((other < start) ⊎ (start < other)) → HasNoneAlike (StartsAt other) rules gates (get_or after other 0)
+    by (inl same) =
+        subst (λ (s : ℕ). HasNoneAlike (StartsAt s) rules gates (get_or after s 0)) (sym same) (subst (λ (r : ℕ). HasNoneAlike (StartsAt start) rules gates r) (sym noted.here) none)
+    by (inr (inl less)) = elsewhere (λ same. omega arith)
+    by (inr (inr more)) = elsewhere (λ same. omega arith)
+
+-- a start of which it is known
+pub known_none : (rules : List RowView) (gates : List Gate) (tried : List ℕ) (start : ℕ) → AreTried rules gates tried → start < length tried → 0 < get_or tried start 0 →
+    HasNoneAmong (StartsAt start) rules gates
+known_none rules gates tried start are below known = (are start below known).none gates refl

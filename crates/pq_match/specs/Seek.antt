@@ -79,7 +79,7 @@ AreTried rules gates tried = (start : ℕ) → start < length tried → 0 < slic
 
 -- what looked at no place from `first` on is kept
 pub record AreKept (first : ℕ) (old new : List ℕ) : Type 0 where
-  pub few : length new ≤ length old
+  pub whole : length new ≡ length old
   pub kept : (start : ℕ) → start < length new → 0 < slice_index new start → (slice_index new start ≡ slice_index old start) × (slice_index new start ≤ first)
 
 -- the first redex that begins at the start, or none

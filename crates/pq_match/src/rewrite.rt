@@ -1,6 +1,6 @@
 //! Rewriting a redex in place.
 
-ghost use Rattle.std.specs.Prelude.{◌≡◌, ℕ, ◌+◌, ◌<◌, ◌≤◌, ◌++◌, List, length, map, take, drop, slice_index, All, AllPairs, vec_len, vec_capacity};
+ghost use Rattle.std.specs.Prelude.{◌≡◌, ℕ, ◌+◌, ◌<◌, ◌≤◌, ◌++◌, List, length, map, take, drop, slice_index, All, AllPairs};
 ghost use Rattle.pq_gate.specs.Circuit.{IsOnWires, IsCircuit};
 ghost use Rattle.pq_gate.specs.Commuting.{Touches};
 ghost use Rattle.pq_gate.specs.Matrix.{Same};
@@ -41,22 +41,19 @@ impl Seg {
         let left = rewrite(self.gates.as_mut_slice(), places, row);
         self.gates.truncate(left);
         self.links.build(self.gates.as_slice());
-        keep_tried(&mut self.tried, redex.places[0]);
+        keep_tried(self.tried.as_mut_slice(), redex.places[0]);
         rewriting_keeps_the_matrix();
         row.phase()
     }
 }
 
 /// Keeps what is known of the starts whose searches looked at no place from `first` on.
-fn keep_tried(tried: &mut Vec<u32>, first: u32)
-    ensures few { vec_len tried.new ≤ vec_len tried.old }
-    ensures room { vec_capacity tried.old ≤ vec_capacity tried.new }
-    ensures kept { AreKept first tried.old.items tried.new.items }
+fn keep_tried(tried: &mut [u32], first: u32)
+    ensures { AreKept first tried.old tried.new }
 {
-    tried.truncate(first as usize);
-    for entry in tried.as_mut_slice() {
-        if *entry > first {
-            *entry = 0;
+    for start in 0..tried.len() {
+        if tried[start] > first {
+            tried[start] = 0;
         }
     }
 }

@@ -26,7 +26,8 @@ fn first_redex(seg: &Seg, rules: &Rules) -> Option<Redex>
     ensures { FindsWithin rules.now seg.now.items (length seg.now.items) result }
 {
     let gates = seg.gates.as_slice();
-    for start in 0..gates.len() as u32 {
+    let count = gates.len() as u32;
+    for start in 0..count {
         let mut reach = start + 1;
         if let Some(first) = seek_from(gates, &seg.links, rules, start, &mut reach) {
             return Some(first);
@@ -47,7 +48,7 @@ impl Seg {
 
     /// The first redex, as `find_first` answers it, where starts of which it is known that none begins there aren't
     /// searched again; and more is known of starts afterwards. It takes no memory.
-    #[tactic(auto, using(crate::proofs::Starting::below_none, crate::proofs::Starting::below_more, crate::proofs::Starting::below_first, crate::proofs::Starting::below_all))]
+    #[tactic(auto, using(crate::proofs::Starting::below_none, crate::proofs::Starting::below_none_at, crate::proofs::Starting::below_first, crate::proofs::Starting::below_all))]
     pub fn find_on(&mut self, rules: &Rules) -> Option<Redex>
         requires tried { AreTried rules.now self.old.items self.old.tried }
         ensures finds { FindsWithin rules.now self.old.items (length self.old.items) result }
@@ -55,7 +56,8 @@ impl Seg {
         ensures room { self.new.room ≡ self.old.room }
         ensures tried { AreTried rules.now self.new.items self.new.tried }
     {
-        for start in 0..self.gates.len() as u32 {
+        let count = self.gates.len() as u32;
+        for start in 0..count {
             if let Some(first) = self.try_start(rules, start) {
                 return Some(first);
             }
