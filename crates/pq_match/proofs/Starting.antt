@@ -9,7 +9,7 @@ use Rattle.pq_gate.specs.declared.gate.Gate.{Gate}
 use Rattle.pq_rules.specs.Renaming.{renamed}
 use Rattle.pq_rules.specs.Row.{RowView}
 use Rattle.pq_match.specs.declared.redex.Redex.{Redex}
-use Rattle.pq_match.specs.Redex.{RedexView, IsRedex, IsWithin, last_place}
+use Rattle.pq_match.specs.Redex.{RedexView, IsRedex, IsWithin, HasNoRedex, last_place}
 use Rattle.pq_match.specs.First.{Precedes, key, HasNoneAmong, HasNoneWithin}
 use Rattle.pq_match.specs.Found.{seen, IsFoundAmong, IsFirstFound}
 use Rattle.pq_match.specs.Rewrite.{unchosen, rewritten}
@@ -68,6 +68,12 @@ below_all {rules} {gates} {start} before all = record {
       let inside : get_or redex.places 0 0 < length gates = is.matches.inside 0 0 is.some in
       omega arith);
 }
+
+pub below_all_none : {rules : List RowView} {gates : List Gate} {start : ℕ} → NoneBelow rules gates start → length gates ≤ start → HasNoRedex rules gates
+below_all_none {rules} {gates} {start} before all redex is =
+    let upto : start ≤ get_or redex.places 0 0 = before.none redex is in
+    let inside : get_or redex.places 0 0 < length gates = is.matches.inside 0 0 is.some in
+    omega arith
 
 -- A start that was tried and failed stays so while the gates that the search looked at stay.
 pub kept_alike : {P : RedexView → Type 0} {rules : List RowView} {old new : List Gate} {reach : ℕ} (first : ℕ) → BeginAlike first old new → reach ≤ first →

@@ -48,10 +48,11 @@ impl Seg {
 
     /// The first redex, as `find_first` answers it, where starts of which it is known that none begins there aren't
     /// searched again; and more is known of starts afterwards. It takes no memory.
-    #[tactic(auto, using(crate::proofs::Starting::below_none, crate::proofs::Starting::below_none_at, crate::proofs::Starting::below_first, crate::proofs::Starting::below_all))]
+    #[tactic(auto, using(crate::proofs::Starting::below_none, crate::proofs::Starting::below_none_at, crate::proofs::Starting::below_first, crate::proofs::Starting::below_all_none))]
     pub fn find_on(&mut self, rules: &Rules) -> Option<Redex>
         requires tried { AreTried rules.now self.old.items self.old.tried }
-        ensures finds { FindsWithin rules.now self.old.items (length self.old.items) result }
+        ensures none { IfNone result (HasNoRedex rules.now self.old.items) }
+        ensures first { IfSome result (λ redex. IsFirstFound rules.now self.old.items (length self.old.items) redex) }
         ensures items { self.new.items ≡ self.old.items }
         ensures room { self.new.room ≡ self.old.room }
         ensures tried { AreTried rules.now self.new.items self.new.tried }
