@@ -28,10 +28,10 @@ abbrev pub Keeps : Plan → State (Unit {0}) View → Type 0
 Keeps plan s = Lawful plan s.words s.views
 
 -- a table's law is that of the pass's plan
-own : (plan : Plan) (v : View) (words : List ℕ) (views : List View) → plan ≡ v.plan → Lawful plan words views → Lawful v.plan words views
+pub own : (plan : Plan) (v : View) (words : List ℕ) (views : List View) → plan ≡ v.plan → Lawful plan words views → Lawful v.plan words views
 own plan v words views same law = subst (λ (p : Plan). Lawful p words views) same law
 
-back : (plan : Plan) (v : View) (words : List ℕ) (views : List View) → plan ≡ v.plan → Lawful v.plan words views → Lawful plan words views
+pub back : (plan : Plan) (v : View) (words : List ℕ) (views : List View) → plan ≡ v.plan → Lawful v.plan words views → Lawful plan words views
 back plan v words views same law = subst (λ (p : Plan). Lawful p words views) (sym same) law
 
 pub claim_allowed : (plan : Plan) (slots id : ℕ) (me : Me (Unit {0}) View) → plan ≡ me.0.plan → 1 ≤ me.0.rights →

@@ -124,7 +124,7 @@ counted_weigh P f when unless (x ∷ xs) _ (one_more _ _ n here many) = omega (a
 counted_weigh P f when unless (x ∷ xs) _ (no_more _ _ n out many) = omega (arith, unless x out, counted_weigh P f when unless xs n many)
 
 -- of numbers that rise the first is the least
-first_below : (x z : ℕ) (xs : List ℕ) → IsStrictlyIncreasing (x ∷ xs) → Contains xs z → x < z
+pub first_below : (x z : ℕ) (xs : List ℕ) → IsStrictlyIncreasing (x ∷ xs) → Contains xs z → x < z
 first_below x z xs up (k, lt, is) = omega (arith, AllPairs-from_increasing (x ∷ xs) up 0 (suc k) z (omega arith) (omega arith), is)
 
 -- and none stands there twice

@@ -103,9 +103,19 @@ stake_claim : (b : Bool) (rights before : ℕ) → 1 ≤ rights → cond b right
 stake_claim true rights before right = omega arith
 stake_claim false rights before right = omega arith
 
-claim_stake : (v : View) (n : ℕ) → 1 ≤ v.rights → stake v.plan (with_ticket n v) ≡ stake v.plan v
+pub claim_stake : (v : View) (n : ℕ) → 1 ≤ v.rights → stake v.plan (with_ticket n v) ≡ stake v.plan v
 claim_stake v n right =
     omega (arith, weigh_push (one_if_late v.plan) v.tickets n, stake_claim (ltb n (length v.plan.jobs)) v.rights (late v.plan v.tickets) right)
+
+-- the same where the plan is another name for the view's
+pub claimed_stake : (plan : Plan) (old new : View) (n : ℕ) → old.plan ≡ plan → 1 ≤ old.rights → new ≡ with_ticket n old → stake plan new ≡ stake plan old
+claimed_stake plan old new n same right is =
+    let its : stake old.plan new ≡ stake old.plan old = ap (λ (u : View). stake old.plan u) is ∙ claim_stake old n right in
+    subst (λ (p : Plan). stake p new ≡ stake p old) same its
+
+-- of two passes together
+pub joined_stake : (plan : Plan) (v w : View) → stake plan (with_both v w) ≡ stake plan v + stake plan w
+joined_stake plan v w = omega (arith, weigh_append (one_if_late plan) v.tickets w.tickets)
 
 claim_stands : (v : View) (n : ℕ) → 1 ≤ v.rights → Stands v.plan v → Stands v.plan (with_ticket n v)
 claim_stands v n right s = record {

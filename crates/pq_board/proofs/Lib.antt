@@ -8,3 +8,4 @@ pub mod Whole
 pub mod Climbing
 pub mod Closing
 pub mod Opening
+pub mod StepLaws

@@ -15,6 +15,7 @@ use crate::receipt::Receipt;
 use crate::rule::{Aim, Claims, Gives, Law, Looks, Lowers, Part, Takes};
 use atomic_table::{Seat, Table};
 use pq_array::WordList;
+use pq_list::crosses_threads;
 use std::alloc::Global;
 use std::marker::{Brand, Model};
 
@@ -114,6 +115,7 @@ impl Board {
         requires right { 1 ≤ pass.old.view.rights }
         ensures board { pass.new.board ≡ pass.old.board }
         ensures claimed { Claimed pass.old.view result pass.new.view }
+        ensures staked { stake self.now.plan pass.new.view ≡ stake self.now.plan pass.old.view }
     {
         let ticket = self.table.shared.fetch_add::<Claims>(&mut pass.seat, 0, 1);
         if ticket < self.job_count() {
@@ -147,6 +149,7 @@ impl Board {
         ensures board { into.new.board ≡ into.old.board }
         ensures both { into.new.view ≡ with_both into.old.view from.view }
         ensures once { AreOnce into.new.view.tickets }
+        ensures staked { stake self.now.plan into.new.view ≡ stake self.now.plan into.old.view + stake self.now.plan from.view }
     {
         let Pass { seat, rights } = from;
         self.table.shared.join_seat::<Takes>(&mut into.seat, seat);
@@ -292,4 +295,9 @@ fn cut<P: Part>(table: &Words, seat: &mut Seat<(), View>, rights: u32) -> Seat<(
     ensures right { result.me ≡ (unused seat.old.me.0.plan rights, []) }
 {
     table.shared.split_seat::<Gives<P>>(seat)
+}
+
+/// A board crosses threads.
+fn board_crosses_threads() {
+    crosses_threads::<Board>();
 }

@@ -1,17 +1,8 @@
 -- The wires of a gate.
-use Rattle.std.specs.Prelude.{ℕ, Bool, true, false, cond}
+use Rattle.std.specs.Prelude.{ℕ, Bool, cond}
 use Rattle.pq_gate.specs.declared.gate.Gate.{Gate}
-use Rattle.pq_gate.specs.declared.gate.Gate.TheVariants.{H, X, Phase, Cx}
+use Rattle.pq_gate.specs.Ports.{first_wire, last_wire}
 
--- A wire of the gate: of a CX the control, or else the target; of another gate its only wire both times.
+-- the last wire of the gate, or else the first, which are one where it has only one
 abbrev pub wire_of : Bool → Gate → ℕ
-wire_of second (H wire) = wire
-wire_of second (X wire) = wire
-wire_of second (Phase eighths wire) = wire
-wire_of second (Cx control target) = cond second target control
-
-abbrev pub first_wire : Gate → ℕ
-first_wire gate = wire_of false gate
-
-abbrev pub second_wire : Gate → ℕ
-second_wire gate = wire_of true gate
+wire_of last gate = cond last (last_wire gate) (first_wire gate)

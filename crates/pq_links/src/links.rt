@@ -1,6 +1,6 @@
 ghost use Rattle.std.specs.Prelude.{◌≡◌, ℕ, ◌+◌, ◌%◌, ◌<◌, ◌≤◌, [], ◌∷◌, ◌++◌, Bool, true, false, length, slice_index, IfOk};
 ghost use Rattle.pq_gate.specs.Commuting.{Touches};
-ghost use Rattle.pq_links.specs.Wires.{wire_of, first_wire, second_wire};
+ghost use Rattle.pq_links.specs.Wires.{wire_of};
 ghost use Rattle.pq_links.specs.Places.{gate_at};
 ghost use Rattle.pq_links.specs.Links.{side_at, IsNextOn, IsLastIn, IsLastOn, AreLinked, AreBefore, AreHeads};
 
@@ -135,8 +135,8 @@ impl Links {
     pub fn next(&self, gates: &[Gate], place: u32) -> Sides
         requires linked { AreLinked gates.now self.now }
         requires place { place < length gates.now }
-        ensures first { IsNextOn gates.now (first_wire (gate_at gates.now place)) (place + 1) result.first }
-        ensures second { IsNextOn gates.now (second_wire (gate_at gates.now place)) (place + 1) result.second }
+        ensures first { IsNextOn gates.now (wire_of false (gate_at gates.now place)) (place + 1) result.first }
+        ensures second { IsNextOn gates.now (wire_of true (gate_at gates.now place)) (place + 1) result.second }
     {
         self.next[place as usize]
     }

@@ -1,15 +1,12 @@
-ghost use Rattle.std.specs.Prelude.{◌≡◌};
-ghost use Rattle.pq_links.specs.Wires.{first_wire, second_wire};
+ghost use Rattle.std.specs.Prelude.{◌≡◌, false, true};
+ghost use Rattle.pq_links.specs.Wires.{wire_of};
 
 use pq_gate::Gate;
 
-/// The control and the target of a CX, and twice the wire of any other gate.
+/// The first and the last wire of the gate: of a CX the control and the target, and twice the wire of any other.
 pub fn wires_of(gate: Gate) -> (u32, u32)
-    ensures first { result.0 ≡ first_wire gate }
-    ensures second { result.1 ≡ second_wire gate }
+    ensures first { result.0 ≡ wire_of false gate }
+    ensures last { result.1 ≡ wire_of true gate }
 {
-    match gate {
-        Gate::H { wire } | Gate::X { wire } | Gate::Phase { wire, .. } => (wire, wire),
-        Gate::Cx { control, target } => (control, target),
-    }
+    (gate.first_wire(), gate.last_wire())
 }

@@ -3,7 +3,7 @@ use Rattle.std.proofs.Common.{◌≡◌, ℕ, ◌%◌, ◌<◌, ◌≤◌, Bool,
 use Rattle.std.proofs.lemmas.Bool.{cases_order}
 use Rattle.pq_gate.specs.declared.gate.Gate.{Gate}
 use Rattle.pq_gate.specs.Commuting.{Touches, Commutes}
-use Rattle.pq_rules.specs.Kinds.{kind_of}
+use Rattle.pq_gate.specs.Kind.{kind_of}
 use Rattle.pq_match.specs.Redex.{gate_at}
 use Rattle.pq_match.specs.Search.{AreApart, IsPassed, IsFull, Begins}
 use Rattle.pq_match.proofs.GrowingWalk.{IsWalked}

@@ -2,6 +2,7 @@ pub mod Leading
 pub mod Moving
 mod FirstOfOrder
 mod FirstOfSettled
+pub mod RenamedWires
 pub mod RewritingWires
 pub mod OneFirst
 pub mod SomeFirst

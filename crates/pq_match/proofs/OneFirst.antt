@@ -1,16 +1,15 @@
 -- There is at most one first redex.
-use Rattle.std.proofs.Common.{◌≡◌, ℕ, zero, suc, ◌<◌, List, [], ◌∷◌, length, get_or, inl, inr, refl, ap, sym, subst, ◌∙◌, arith}
+use Rattle.std.proofs.Common.{◌≡◌, ℕ, zero, suc, ◌<◌, List, [], ◌∷◌, length, inl, inr, refl, ap, sym, subst, ◌∙◌, arith}
 use Rattle.std.specs.Prelude.{All, Option, Some, None}
 use Rattle.std.proofs.lemmas.List.{ext_get_or}
 use Rattle.std.proofs.lemmas.Option.{slice_get_within, get_or_from_slice_get}
 use Rattle.pq_gate.specs.declared.gate.Gate.{Gate}
-use Rattle.pq_gate.specs.declared.gate.Gate.TheVariants.{H, X, Phase, Cx}
-use Rattle.pq_gate.specs.Commuting.{Touches}
 use Rattle.pq_rules.specs.Row.{RowView, Uses, IsSound}
 use Rattle.pq_rules.specs.Renaming.{renamed}
 use Rattle.pq_rules.specs.Kinds.{row_numbered}
 use Rattle.pq_match.specs.Redex.{RedexView, IsRedex, IsMatch, IsWithin, HasNoRedex, last_place}
 use Rattle.pq_match.specs.First.{Precedes, key, IsFirst, HasNoneWithin, FirstWithin}
+use Rattle.pq_match.proofs.RenamedWires.{led_once}
 use Rattle.pq_match.proofs.RewritingWires.{places_long, chosen_at}
 use Rattle.pq_match.proofs.FirstOfOrder.{Comes, comes_cases, precedes_from_comes}
 
@@ -23,13 +22,6 @@ row_sound rules (suc k) row is sound =
 pub number_small : (rules : List RowView) (number : ℕ) (row : RowView) → row_numbered rules number ≡ Some row → number < suc (length rules)
 number_small rules zero row is = omega arith
 number_small rules (suc k) row is = omega (arith, slice_get_within rules k row is)
-
--- a wire of a gate is led to one wire, where the renamed gate is one
-led_once : (e f : List ℕ) (g : Gate) (w : ℕ) → Touches g w → renamed e g ≡ renamed f g → get_or e w 0 ≡ get_or f w 0
-led_once e f (H v) w here same = cc
-led_once e f (X v) w here same = cc
-led_once e f (Phase k v) w here same = cc
-led_once e f (Cx c t) w here same = elim here [ inl is ↦ cc | inr is ↦ cc ]
 
 -- so the places of a redex choose its wires
 wires_once : (gates : List Gate) (row : RowView) (e f places : List ℕ) → IsSound row → length e ≡ row.wires → length f ≡ row.wires →

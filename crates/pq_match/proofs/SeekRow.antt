@@ -3,7 +3,8 @@ use Rattle.std.proofs.Common.{◌≡◌, ℕ, zero, suc, ◌+◌, ◌<◌, ◌�
 use Rattle.std.specs.Prelude.{Option}
 use Rattle.std.proofs.lemmas.Bool.{cases_order}
 use Rattle.pq_gate.specs.declared.gate.Gate.{Gate}
-use Rattle.pq_rules.specs.Kinds.{kind_of, numbers_starting, row_numbered}
+use Rattle.pq_gate.specs.Kind.{kind_of, number_of}
+use Rattle.pq_rules.specs.Kinds.{numbers_starting, row_numbered}
 use Rattle.pq_rules.specs.Row.{RowView, IsSound}
 use Rattle.pq_match.specs.declared.redex.Redex.{Redex}
 use Rattle.pq_match.specs.Redex.{RedexView, IsRedex, gate_at, last_place}
@@ -13,7 +14,7 @@ use Rattle.pq_match.specs.Search.{IsOfRow, IsFirstFull}
 use Rattle.pq_match.specs.Seek.{BeginAlike, HasNoneAlike, HasNoFullAlike, StartsAt, IsRowAt}
 use Rattle.pq_match.proofs.OneFirst.{last_inside}
 use Rattle.pq_match.proofs.Seeking.{same_gate, alike_shorter}
-use Rattle.pq_match.proofs.SearchFrom.{number_of}
+use Rattle.pq_match.proofs.SearchFrom.{row_stands}
 use Rattle.pq_match.proofs.SearchNumbers.{numbers_rise}
 use Rattle.pq_match.proofs.SearchPlaces.{StandsAt}
 use Rattle.pq_match.proofs.SearchRow.{none_of_row, first_of_row}
@@ -66,14 +67,14 @@ pub record AreCandidates (rules : List RowView) (gates : List Gate) (start reach
 
 -- the rows that begin with a gate of the kind of the gate at the start
 pub starting_candidates : (rules : List RowView) (gates : List Gate) (start reach : ℕ) (numbers : List ℕ) → start < reach →
-    numbers ≡ numbers_starting (kind_of (gate_at gates start)) 1 rules → AreCandidates rules gates start reach numbers
+    numbers ≡ numbers_starting (number_of (kind_of (gate_at gates start))) 1 rules → AreCandidates rules gates start reach numbers
 starting_candidates rules gates start reach numbers seen are = record {
   rise = λ i j less below.
       subst (λ (ns : List ℕ). (i j : ℕ) → i < j → j < length ns → get_or ns i 0 < get_or ns j 0) (sym are)
-      (λ i j less below. numbers_rise (kind_of (gate_at gates start)) 1 rules i j 0 less below) i j less below;
+      (λ i j less below. numbers_rise (number_of (kind_of (gate_at gates start))) 1 rules i j 0 less below) i j less below;
   all = λ other alike redex is at.
-      subst (λ (ns : List ℕ). StandsAt ns redex.row) (sym (are ∙ ap (λ (g : Gate). numbers_starting (kind_of g) 1 rules) (same_gate gates other reach alike start seen)))
-      (number_of rules other start 0 redex is at);
+      subst (λ (ns : List ℕ). StandsAt ns redex.row) (sym (are ∙ ap (λ (g : Gate). numbers_starting (number_of (kind_of g)) 1 rules) (same_gate gates other reach alike start seen)))
+      (row_stands rules other start 0 redex is at);
 }
 
 -- none of the rows with the first of these numbers has a redex here

@@ -4,12 +4,11 @@ use Rattle.std.specs.Prelude.{All, Option, Some, None}
 use Rattle.std.proofs.lemmas.Bool.{cases_eq}
 use Rattle.std.proofs.lemmas.List.Elements.{All-from_get_or}
 use Rattle.pq_gate.specs.declared.gate.Gate.{Gate}
-use Rattle.pq_gate.specs.declared.gate.Gate.TheVariants.{H, X, Phase, Cx}
-use Rattle.pq_gate.specs.Commuting.{Touches}
 use Rattle.pq_rules.specs.Row.{RowView, Uses, IsSound}
 use Rattle.pq_rules.specs.Renaming.{renamed}
 use Rattle.pq_match.specs.Redex.{RedexView, IsRedex, IsWithin, gate_at}
 use Rattle.pq_match.specs.First.{key, FirstWithin}
+use Rattle.pq_match.proofs.RenamedWires.{touches_renamed}
 use Rattle.pq_match.proofs.FirstOfSettled.{Settled, redex_within, above_wires, touched_below}
 use Rattle.pq_match.proofs.FirstOfOrder.{Comes, comes_cases, comes_through, comes_never_before_itself, comes_from_precedes}
 use Rattle.pq_match.proofs.RewritingWires.{places_long, chosen_at}
@@ -143,13 +142,6 @@ above_each : (gates : List Gate) (place : ℕ) → place < length gates → abov
 above_each [] place inside = absurd (omega arith)
 above_each (g ∷ gates) zero inside = omega arith
 above_each (g ∷ gates) (suc place) inside = omega (arith, above_each gates place (omega arith))
-
-touches_renamed : (e : List ℕ) (g : Gate) (w : ℕ) → Touches g w → Touches (renamed e g) (get_or e w 0)
-touches_renamed e (H v) w here = ap (λ (u : ℕ). get_or e u 0) here
-touches_renamed e (X v) w here = ap (λ (u : ℕ). get_or e u 0) here
-touches_renamed e (Phase k v) w here = ap (λ (u : ℕ). get_or e u 0) here
-touches_renamed e (Cx c t) w here =
-    elim here [ inl is ↦ inl (ap (λ (u : ℕ). get_or e u 0) is) | inr is ↦ inr (ap (λ (u : ℕ). get_or e u 0) is) ]
 
 module _ (rules : List RowView) (gates : List Gate) (sound : All IsSound rules) where
   -- the wires of a redex are wires of the gates

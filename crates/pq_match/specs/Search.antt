@@ -3,7 +3,7 @@ use Rattle.std.specs.Prelude.{◌≡◌, ◌≢◌, ℕ, ◌<◌, ◌≤◌, ◌
 use Rattle.pq_limits.specs.declared.TheConstants.{MAX_ROW_GATES}
 use Rattle.pq_gate.specs.declared.gate.Gate.{Gate}
 use Rattle.pq_gate.specs.Commuting.{Touches, Commutes}
-use Rattle.pq_rules.specs.Kinds.{kind_of}
+use Rattle.pq_gate.specs.Kind.{kind_of, number_of}
 use Rattle.pq_match.specs.Redex.{RedexView, gate_at, last_place}
 use Rattle.pq_match.specs.Wires.{wire_of}
 
@@ -44,7 +44,7 @@ pub record IsNext (gates : List Gate) (places : List ℕ) (count place : ℕ) : 
 -- of the kinds that are marked in `near`.
 abbrev pub HasKindsNear : List Gate → ℕ → ℕ → List Bool → Type 0
 HasKindsNear gates start end near = (place w : ℕ) → IsNext gates (start ∷ []) 1 place → place < end →
-    Touches (gate_at gates start) w → Touches (gate_at gates place) w → slice_index_or near (kind_of (gate_at gates place)) false ≡ true
+    Touches (gate_at gates start) w → Touches (gate_at gates place) w → slice_index_or near (number_of (kind_of (gate_at gates place))) false ≡ true
 
 -- all of the first `count` gates commute with the gate at the place
 pub record IsPassable (gates : List Gate) (places : List ℕ) (count place : ℕ) : Type 0 where

@@ -1,6 +1,6 @@
 ghost use Rattle.std.specs.Prelude.{◌≡◌, ℕ, ◌+◌, ◌<◌, ◌≤◌, false, true, length, slice_index};
 ghost use Rattle.pq_gate.specs.Circuit.{IsOnWires};
-ghost use Rattle.pq_rules.specs.Kinds.{kind_of};
+ghost use Rattle.pq_gate.specs.Kind.{kind_of};
 ghost use Rattle.pq_links.specs.Links.{AreLinked};
 ghost use Rattle.pq_match.specs.Redex.{gate_at};
 ghost use Rattle.pq_match.specs.Seek.{AreAhead, HaveMovedOn, AreLedTo};

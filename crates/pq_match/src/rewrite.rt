@@ -10,12 +10,10 @@ ghost use Rattle.pq_match.specs.Redex.{IsMatch, gate_at, last_place};
 ghost use Rattle.pq_match.specs.Rewrite.{unchosen, rewritten};
 ghost use Rattle.pq_match.specs.Seek.{AreTried, AreKept};
 ghost use Rattle.pq_match.specs.Found.{IsRedexOf, Rewrites};
-ghost use Rattle.pq_match.specs.Wires.{first_wire, second_wire};
 
 use crate::laws::rewriting_keeps_the_matrix;
 use crate::redex::Redex;
 use crate::segment::Seg;
-use pq_links::wires_of;
 use pq_gate::Gate;
 use pq_limits::MAX_ROW_WIRES;
 use pq_rules::{Row, Rules};
@@ -100,10 +98,8 @@ fn lead(wires: &mut [u32; ROW_WIRES], gate: Gate, to: Gate)
     ensures others { (e : List ℕ) → to ≡ renamed e gate → (w : ℕ) → slice_index wires.old w ≡ slice_index e w →
         slice_index wires.new w ≡ slice_index e w }
 {
-    let (first, second) = wires_of(gate);
-    let (to_first, to_second) = wires_of(to);
-    wires[first as usize] = to_first;
-    wires[second as usize] = to_second;
+    wires[gate.first_wire() as usize] = to.first_wire();
+    wires[gate.last_wire() as usize] = to.last_wire();
 }
 
 /// Closes up the gates before `end` that aren't chosen, where the last chosen gate stands before `end`.
@@ -148,20 +144,7 @@ fn rename(gate: Gate, wires: &[u32; ROW_WIRES]) -> Gate
     requires { IsOnWires MAX_ROW_WIRES gate }
     ensures { result ≡ renamed wires.now gate }
 {
-    match gate {
-        Gate::H { wire } => Gate::H {
-            wire: wires[wire as usize],
-        },
-        Gate::X { wire } => Gate::X {
-            wire: wires[wire as usize],
-        },
-        Gate::Phase { eighths, wire } => Gate::Phase {
-            eighths,
-            wire: wires[wire as usize],
-        },
-        Gate::Cx { control, target } => Gate::Cx {
-            control: wires[control as usize],
-            target: wires[target as usize],
-        },
-    }
+    let first = wires[gate.first_wire() as usize];
+    let last = wires[gate.last_wire() as usize];
+    gate.on(first, last)
 }

@@ -1,15 +1,17 @@
 ghost use Rattle.std.specs.Prelude.{◌≡◌, ℕ, ◌+◌, ◌%◌, ◌<◌, ◌≤◌, ◌↔◌, IsTrue, IfSome, IfNone, true, false, length, slice_index, slice_index_or, slice_set};
 ghost use Rattle.pq_gate.specs.Commuting.{Touches, Commutes};
-ghost use Rattle.pq_rules.specs.Kinds.{kind_of};
+ghost use Rattle.pq_gate.specs.Kind.{kind_of, number_of};
 ghost use Rattle.pq_match.specs.Redex.{HasNoRedex, gate_at};
 ghost use Rattle.pq_match.specs.Found.{FindsAmong, FindsWithin, IsFirstFound};
 ghost use Rattle.pq_match.specs.Search.{AreApart, IsAlike, AreAlike, IsFitting, IsNext, HasKindsNear, IsPassable, IsGrown, FindsFull, AreEight, IsFrom, IsOfRow};
 
 use crate::redex::Redex;
-use pq_gate::{Eighths, Gate, commutes};
-use pq_links::wires_of;
+use pq_gate::{Gate, KINDS, commutes};
 use pq_limits::{MAX_GATES, MAX_ROW_GATES};
 use pq_rules::Rules;
+
+// how many numbers of kinds there are, as a length
+const KIND_NUMBERS: usize = KINDS as usize;
 
 /// The first redex of at most 1,048,576 gates whose last place minus its first place is less than
 /// `span`. None exactly where there is none. It takes no memory.
@@ -52,14 +54,14 @@ fn find_from(gates: &[Gate], rules: &Rules, start: u32, end: u32) -> Option<Rede
 // commute with it. In a match that begins at the start, the next gate that shares a wire with the first is of
 // one of these kinds, so one pass rules out most rows.
 #[tactic(auto, using(crate::proofs::SearchNear::near_begins, crate::proofs::SearchNear::near_passes, crate::proofs::SearchNear::near_grows, crate::proofs::SearchNear::near_stops, crate::proofs::SearchNear::near_ends))]
-fn kinds_near(gates: &[Gate], start: u32, end: u32) -> [bool; 10]
+fn kinds_near(gates: &[Gate], start: u32, end: u32) -> [bool; KIND_NUMBERS]
     requires few { length gates.now ≤ MAX_GATES }
     requires start { start < end }
     requires end { end ≤ length gates.now }
     ensures { HasKindsNear gates.now start end result }
 {
     let gate = gates[start as usize];
-    let mut near = [false; 10];
+    let mut near = [false; KIND_NUMBERS];
     for place in start + 1..end {
         let other = gates[place as usize];
         if are_apart(gate, other) {
@@ -80,7 +82,7 @@ fn find_row(
     number: u32,
     start: u32,
     end: u32,
-    near: &[bool; 10],
+    near: &[bool; KIND_NUMBERS],
 ) -> Option<Redex>
     requires few { length gates.now ≤ MAX_GATES }
     requires start { start < end }
@@ -240,7 +242,8 @@ fn use_wires(used: &mut [bool; 64], gate: Gate)
     ensures own { (w : ℕ) → Touches gate w → slice_index_or used.new (w % 64) false ≡ true }
     ensures others { (k : ℕ) → slice_index_or used.old k false ≡ true → slice_index_or used.new k false ≡ true }
 {
-    let (wire, other) = wires_of(gate);
+    let wire = gate.first_wire();
+    let other = gate.last_wire();
     used[wire as usize % 64] = true;
     used[other as usize % 64] = true;
 }
@@ -282,8 +285,7 @@ fn next_place(gates: &[Gate], used: &[bool; 64], free: bool, next: Gate, from: u
 fn may_use(gate: Gate, used: &[bool; 64]) -> bool
     ensures { result ≡ false → (w : ℕ) → Touches gate w → slice_index_or used.now (w % 64) false ≡ false }
 {
-    let (wire, other) = wires_of(gate);
-    used[wire as usize % 64] || used[other as usize % 64]
+    used[gate.first_wire() as usize % 64] || used[gate.last_wire() as usize % 64]
 }
 
 // whether the gate at the last of the places fits to the pattern, and to the gates before it
@@ -333,24 +335,19 @@ fn are_commuting(first: Gate, second: Gate) -> bool
 fn are_apart(first: Gate, second: Gate) -> bool
     ensures { IsTrue result ↔ AreApart first second }
 {
-    let (wire, other) = wires_of(first);
-    !touches(second, wire) && (other == wire || !touches(second, other))
-}
-
-// whether the wire is one of the gate's wires
-fn touches(gate: Gate, wire: u32) -> bool
-    ensures { IsTrue result ↔ Touches gate wire }
-{
-    let (own, other) = wires_of(gate);
-    wire == own || wire == other
+    let wire = first.first_wire();
+    let other = first.last_wire();
+    !second.touches(wire) && (other == wire || !second.touches(other))
 }
 
 // whether the wires of two gates are equal exactly where those of the pattern's gates are
 fn are_alike(of_first: Gate, of_second: Gate, first: Gate, second: Gate) -> bool
     ensures { IsTrue result ↔ AreAlike of_first of_second first second }
 {
-    let (of_wire, of_other) = wires_of(of_first);
-    let (wire, other) = wires_of(first);
+    let of_wire = of_first.first_wire();
+    let of_other = of_first.last_wire();
+    let wire = first.first_wire();
+    let other = first.last_wire();
     is_alike(of_wire, of_second, wire, second) && is_alike(of_other, of_second, other, second)
 }
 
@@ -358,39 +355,28 @@ fn are_alike(of_first: Gate, of_second: Gate, first: Gate, second: Gate) -> bool
 fn is_alike(of_wire: u32, of_gate: Gate, wire: u32, gate: Gate) -> bool
     ensures { IsTrue result ↔ IsAlike of_wire of_gate wire gate }
 {
-    let (p, q) = wires_of(of_gate);
-    let (v, w) = wires_of(gate);
-    (wire == v) == (of_wire == p) && (wire == w) == (of_wire == q)
+    are_one_where(wire, gate.first_wire(), of_wire, of_gate.first_wire())
+        && are_one_where(wire, gate.last_wire(), of_wire, of_gate.last_wire())
 }
 
-// the kind of a gate, as a number
-fn kind(gate: Gate) -> usize
-    ensures kind { result ≡ kind_of gate }
-    ensures few { result < 10 }
+// whether two wires are one exactly where two wires of the pattern are
+fn are_one_where(wire: u32, own: u32, of_wire: u32, of_own: u32) -> bool
+    ensures { IsTrue result ↔ ((wire ≡ own) ↔ (of_wire ≡ of_own)) }
 {
-    match gate {
-        Gate::H { .. } => 0,
-        Gate::X { .. } => 1,
-        Gate::Cx { .. } => 2,
-        Gate::Phase { eighths, .. } => match eighths {
-            Eighths::T => 3,
-            Eighths::S => 4,
-            Eighths::Z => 6,
-            Eighths::Sdg => 8,
-            Eighths::Tdg => 9,
-        },
-    }
+    (wire == own) == (of_wire == of_own)
+}
+
+// the number of the kind of a gate
+fn kind(gate: Gate) -> usize
+    ensures kind { result ≡ number_of (kind_of gate) }
+    ensures few { result < KINDS }
+{
+    gate.kind().number() as usize
 }
 
 // whether the gates are of one kind: phases, by the same eighths
 pub(crate) fn are_of_one_kind(first: Gate, second: Gate) -> bool
     ensures { IsTrue result ↔ (kind_of first ≡ kind_of second) }
 {
-    match (first, second) {
-        (Gate::H { .. }, Gate::H { .. }) => true,
-        (Gate::X { .. }, Gate::X { .. }) => true,
-        (Gate::Cx { .. }, Gate::Cx { .. }) => true,
-        (Gate::Phase { eighths, .. }, Gate::Phase { eighths: other, .. }) => eighths == other,
-        _ => false,
-    }
+    first.kind() == second.kind()
 }

@@ -4,7 +4,6 @@
 ghost use Rattle.std.specs.Prelude.{◌≡◌, ℕ, ◌+◌, ◌^◌, ◌<◌, ◌≤◌, Bool, List, true, cond, length, slice_set};
 ghost use Rattle.pq_gate.specs.Bits.{bit, same_bits, toggled};
 ghost use Rattle.pq_gate.specs.Circuit.{IsOnWires, IsCircuit};
-ghost use Rattle.pq_gate.specs.Eighths.{eighths_of};
 ghost use Rattle.pq_gate.specs.Matrix.{through, Entry};
 ghost use Rattle.pq_gate.specs.Ring.{nought, one, plus, root, rooted, turned, turned_if};
 ghost use Rattle.pq_gate.specs.declared.ring.Ring.{Ring};
@@ -12,7 +11,7 @@ ghost use Rattle.pq_rules.specs.Bounds.{IsWithin, IsColumnWithin};
 ghost use Rattle.pq_rules.specs.Columns.{HasWeights, IsMatrix};
 ghost use Rattle.pq_rules.specs.States.{state};
 
-use pq_gate::{Eighths, Gate, Ring};
+use pq_gate::{Gate, Ring};
 use pq_limits::MAX_ROW_WIRES;
 
 const ZERO: Ring = Ring {
@@ -122,18 +121,6 @@ fn root_times(ring: Ring) -> Ring
     }
 }
 
-fn eighths_count(eighths: Eighths) -> u8
-    ensures { result ≡ eighths_of eighths }
-{
-    match eighths {
-        Eighths::T => 1,
-        Eighths::S => 2,
-        Eighths::Z => 4,
-        Eighths::Sdg => 6,
-        Eighths::Tdg => 7,
-    }
-}
-
 // the number of the state with the wire's value changed where `by` is true
 fn toggled_bit(number: u8, wire: u32, by: bool) -> u8
     requires number { number < 8 }
@@ -193,11 +180,7 @@ fn entry_through(gate: Gate, rest: &[Ring; 8], from: u8) -> Ring
         }
         Gate::X { wire } => rest[toggled_bit(from, wire, true) as usize],
         Gate::Phase { eighths, wire } => {
-            turned_where(
-                has_bit(from, wire),
-                eighths_count(eighths),
-                rest[from as usize],
-            )
+            turned_where(has_bit(from, wire), eighths.count(), rest[from as usize])
         }
         Gate::Cx { control, target } => {
             rest[toggled_bit(from, target, has_bit(from, control)) as usize]

@@ -1,13 +1,14 @@
 ghost use Rattle.std.specs.Prelude.{◌≡◌, ℕ, ◌+◌, ◌<◌, ◌≤◌, ◌++◌, [], ◌∷◌, All, cond, length, map, IfOk, IfSome, slice_index_or, vec_len};
 ghost use Rattle.std.specs.Option.{option_copied};
-ghost use Rattle.pq_rules.specs.Kinds.{kind_of, begins, numbers_starting, row_numbered};
+ghost use Rattle.pq_gate.specs.Kind.{kind_of, number_of};
+ghost use Rattle.pq_rules.specs.Kinds.{begins, numbers_starting, row_numbered};
 ghost use Rattle.pq_rules.specs.Row.{RowView, IsSound};
 ghost use Rattle.pq_rules.specs.Shapes.{shape_row};
 ghost use Rattle.pq_rules.specs.Table.{builtin_rows};
 
 use crate::row::{RawRow, Row};
 use crate::table::{GATES, SHAPES, Shape};
-use pq_gate::{Eighths, Gate, GateList};
+use pq_gate::{Gate, GateList, KINDS};
 use pq_limits::MAX_EXTRA_ROWS;
 use pq_list::{OutOfMemory, crosses_threads};
 use std::alloc::Global;
@@ -19,16 +20,13 @@ pub const BUILTIN_ROWS: usize = 52;
 /// The most rows: the built-in ones, and as many as may follow them.
 pub const MAX_ROWS: usize = BUILTIN_ROWS + MAX_EXTRA_ROWS;
 
-// how many numbers there are for kinds of gates
-const KINDS: u8 = 10;
-
 /// Sound rows, numbered from 1, with an index by the kind of their first gate. Contracts see the list
 /// of the rows.
 #[derive(Drop)]
 pub struct Rules {
     rows: Vec<Row>,
 
-    // for each kind, the numbers of the rows that start with it
+    // by the number of a kind: the numbers of the rows that start with a gate of it
     starting: Vec<Vec<u32>>,
 }
 
@@ -39,14 +37,15 @@ impl Model for Rules {
     ghost Value = { List RowView };
 
     ghost use Rattle.std.specs.Prelude.{◌≡◌, ◌<◌, ◌≤◌, All, slice_index_or, vec_len};
+    ghost use Rattle.pq_gate.specs.declared.kind.TheConstants.{KINDS};
     ghost use Rattle.pq_rules.specs.Kinds.{numbers_starting};
     ghost use Rattle.pq_rules.specs.Row.{IsSound};
     ghost use Rattle.pq_rules.specs.declared.rules.TheConstants.{MAX_ROWS};
 
     ghost view = { λ a. a.rows.items };
 
-    ghost invariant = { λ a. All IsSound a.rows.items × (vec_len a.rows ≤ MAX_ROWS) × (vec_len a.starting ≡ 10) ×
-        ((k : ℕ) (d : _) → k < 10 → (slice_index_or a.starting.items k d).items ≡ numbers_starting k 1 a.rows.items) };
+    ghost invariant = { λ a. All IsSound a.rows.items × (vec_len a.rows ≤ MAX_ROWS) × (vec_len a.starting ≡ KINDS) ×
+        ((k : ℕ) (d : _) → k < KINDS → (slice_index_or a.starting.items k d).items ≡ numbers_starting k 1 a.rows.items) };
 }
 
 impl Rules {
@@ -114,9 +113,9 @@ impl Rules {
     /// The numbers, ascending, of the rows whose first gate is of this gate's kind: for a phase, of the
     /// same eighths.
     pub fn rows_starting(&self, gate: Gate) -> &[u32]
-        ensures { result.now ≡ numbers_starting (kind_of gate) 1 self.now }
+        ensures { result.now ≡ numbers_starting (number_of (kind_of gate)) 1 self.now }
     {
-        self.starting[kind(gate) as usize].as_slice()
+        self.starting[gate.kind().number() as usize].as_slice()
     }
 }
 
@@ -135,31 +134,12 @@ fn rows_are_sound(rows: &[Row])
     }
 }
 
-// the kind of a gate
-fn kind(gate: Gate) -> u8
-    ensures kind { result ≡ kind_of gate }
-    ensures few { result < 10 }
-{
-    match gate {
-        Gate::H { .. } => 0,
-        Gate::X { .. } => 1,
-        Gate::Cx { .. } => 2,
-        Gate::Phase { eighths, .. } => match eighths {
-            Eighths::T => 3,
-            Eighths::S => 4,
-            Eighths::Z => 6,
-            Eighths::Sdg => 8,
-            Eighths::Tdg => 9,
-        },
-    }
-}
-
-// whether the row's pattern starts with a gate of this kind
+// whether the row's pattern starts with a gate of the kind of this number
 fn starts(row: &Row, of_kind: u8) -> bool
     ensures { result ≡ begins of_kind row.now.pattern }
 {
     match row.pattern() {
-        [first, ..] => kind(*first) == of_kind,
+        [first, ..] => first.kind().number() == of_kind,
         [] => false,
     }
 }
@@ -174,7 +154,7 @@ fn push_where(numbers: &mut Vec<u32>, number: u32, wanted: bool) -> Result<(), O
     Ok(())
 }
 
-// the numbers of the rows that start with a gate of this kind
+// the numbers of the rows that start with a gate of the kind of this number
 fn numbers_of(alloc: Global, rows: &[Row], of_kind: u8) -> Result<Vec<u32>, OutOfMemory>
     requires { length rows.now ≤ MAX_ROWS }
     ensures { IfOk result (λ numbers. numbers.items ≡ numbers_starting of_kind 1 rows.now) }
@@ -191,8 +171,8 @@ fn numbers_of(alloc: Global, rows: &[Row], of_kind: u8) -> Result<Vec<u32>, OutO
 // the same for each kind
 fn index_of(alloc: Global, rows: &[Row]) -> Result<Vec<Vec<u32>>, OutOfMemory>
     requires { length rows.now ≤ MAX_ROWS }
-    ensures len { IfOk result (λ index. vec_len index ≡ 10) }
-    ensures numbers { IfOk result (λ index. (k : ℕ) (d : _) → k < 10 → (slice_index_or index.items k d).items ≡ numbers_starting k 1 rows.now) }
+    ensures len { IfOk result (λ index. vec_len index ≡ KINDS) }
+    ensures numbers { IfOk result (λ index. (k : ℕ) (d : _) → k < KINDS → (slice_index_or index.items k d).items ≡ numbers_starting k 1 rows.now) }
 {
     let mut index = Vec::with_capacity(alloc, KINDS as usize)?;
     for of_kind in 0..KINDS {

@@ -1,5 +1,5 @@
 use Rattle.std.proofs.Common.{◌≡◌, ℕ, ◌<◌, ◌≤◌}
-use Rattle.pq_rules.specs.Kinds.{kind_of}
+use Rattle.pq_gate.specs.Kind.{kind_of}
 use Rattle.pq_match.specs.Redex.{gate_at}
 use Rattle.pq_match.proofs.cursors.first_of_kind.Given as goal
 

@@ -8,8 +8,8 @@ pub returns-clause-led : goal.returns-clause-led
 returns-clause-led c =
     let first_in : wire_of false c.args.of_gate < 3 = wire_below 3 c.args.of_gate false c.requires.on_wires in
     let second_in : wire_of true c.args.of_gate < 3 = wire_below 3 c.args.of_gate true c.requires.on_wires in
-    led_to c.args.gates.now c.args.of_gate c.args.place c.args.cursors.now _ _ _ _ _ _ c.wires_of-first.ensures.first c.wires_of-first.ensures.second
-    c.wires_of-to_first.ensures.first c.wires_of-to_first.ensures.second (omega arith) (omega arith) (omega arith) (omega arith) c.next-sides.ensures.first c.next-sides.ensures.second
+    led_to c.args.gates.now c.args.of_gate c.args.place c.args.cursors.now _ _ _ _ _ _ c.wires_of-first.ensures.first c.wires_of-first.ensures.last
+    c.wires_of-to_first.ensures.first c.wires_of-to_first.ensures.last (omega arith) (omega arith) (omega arith) (omega arith) c.next-sides.ensures.first c.next-sides.ensures.second
 
 pub returns-clause-ahead : goal.returns-clause-ahead
 returns-clause-ahead c ahead =

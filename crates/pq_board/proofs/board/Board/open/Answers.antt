@@ -7,7 +7,6 @@ use Rattle.pq_board.proofs.Opening.{plan_of, opened_law, long_enough}
 use Rattle.pq_board.proofs.board.Board.open.Goals as goal
 use Rattle.pq_board.proofs.board.Board.open.Goals.{After-as_slice-2}
 
-
 -- it is a plan
 is_plan : (c : After-as_slice-2) → IsPlan record { jobs = c.args.jobs; words = c.put.new.self; passes = c.args.passes }
 is_plan c =

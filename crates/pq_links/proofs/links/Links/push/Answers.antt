@@ -11,7 +11,7 @@ returns-clause-linked c =
     pushed c.args.gates.now c.args.gate c.args.self.now _ c.wires_of-first.result.0 c.wires_of-first.result.1 c.last_on-last_first.result c.last_on-last_second.result
     (length c.as_slice-heads.result.now) c.lead.new.next c.lead-2.new.next
     (record { first = get_or c.as_slice-heads.result.now (c.wires_of-first.result.0 % length c.as_slice-heads.result.now) 0; second = get_or c.as_slice-heads.result.now (c.wires_of-first.result.1 % length c.as_slice-heads.result.now) 0 })
-    c.requires.linked (omega (arith, room)) c.wires_of-first.ensures.first c.wires_of-first.ensures.second c.last_on-last_first.ensures c.last_on-last_second.ensures
+    c.requires.linked (omega (arith, room)) c.wires_of-first.ensures.first c.wires_of-first.ensures.last c.last_on-last_first.ensures c.last_on-last_second.ensures
     (record { led = c.lead.ensures.led; others = λ p one other. c.lead.ensures.others p one other ∙ ap (λ (xs : List Sides). side_at one xs p) (c.as_mut_slice-next.ensures.value ∙ ap (λ (v : LinksView). v.next) c.self.view_is) })
     (record { led = c.lead-2.ensures.led; others = c.lead-2.ensures.others })
     (omega (arith, nexts))
