@@ -66,3 +66,13 @@ uses_neither gate wire first second first_is second_is not_first not_second uses
     by : (one : Bool) × (wire ≡ wire_of one gate) → ⊥
     by (false, is) = not_first (first_is ∙ sym is)
     by (true, is) = not_second (second_is ∙ sym is)
+
+-- places fall on the way back, and past the end it is over
+pub earlier_less : {buckets bucket : ℕ} {gates : List Gate} {place earlier : ℕ} → length gates < far → place < length gates → IsLastIn buckets bucket gates place earlier →
+    (earlier + 1) % 4294967296 < (place + 1) % 4294967296
+earlier_less {buckets} {bucket} {gates} {place} {earlier} few inside last = by (cases_order earlier place)
+  where
+    by : (earlier ≡ place) ⊎ ((earlier < place) ⊎ (place < earlier)) → (earlier + 1) % 4294967296 < (place + 1) % 4294967296
+    by (inl same) = (let e : earlier ≡ far = last.past (omega arith) in absurd (omega arith))
+    by (inr (inl less)) = omega arith
+    by (inr (inr more)) = (let e : earlier ≡ far = last.past (omega arith) in omega arith)

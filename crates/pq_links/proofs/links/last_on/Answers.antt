@@ -2,7 +2,7 @@ use Rattle.std.proofs.Common.{◌≡◌, ◌%◌, false, true, ap, subst, ◌∙
 use Rattle.pq_links.specs.Links.{side_at, IsLastIn}
 use Rattle.pq_links.specs.Wires.{wire_of}
 use Rattle.pq_links.specs.Places.{gate_at}
-use Rattle.pq_links.proofs.Chains.{back_starts, back_more, other_side, uses_neither}
+use Rattle.pq_links.proofs.Chains.{back_starts, back_more, other_side, uses_neither, earlier_less}
 use Rattle.pq_links.proofs.links.last_on.Goals as goal
 
 pub back-init : goal.back-init
@@ -24,3 +24,6 @@ back-preserved c =
     (other_side (length c.args.heads.now) (c.args.wire % length c.args.heads.now) (gate_at c.args.gates.now c.back.place) (c.back.invariant.«in» c.back-test.true)
     (λ same. c.if-first-buckets.false (ap (λ w. w % length c.args.heads.now) c.wires_of-first.ensures.first ∙ same)))
     (c.requires.before c.back.place true c.back-test.true))
+
+pub back-smaller-then-first-buckets : goal.back-smaller-then-first-buckets
+back-smaller-then-first-buckets c = earlier_less c.requires.few c.back-test.true (c.requires.before c.back.place false c.back-test.true)
