@@ -1,11 +1,11 @@
 -- The law of a board, and the live leaves of a tree.
-use Rattle.std.proofs.Common.{◌≡◌, ◌≢◌, ℕ, zero, suc, ◌+◌, ◌-◌, ◌*◌, ◌/◌, ◌^◌, ◌<◌, ◌≤◌, ◌⊎◌, inl, inr, ⊎_elim, List, [], ◌∷◌, ◌++◌, length, drop, set, get_or, refl, sym, ap, ◌∙◌, subst, arith}
+use Rattle.std.proofs.Common.{◌≡◌, ◌≢◌, ℕ, zero, suc, ◌+◌, ◌-◌, ◌*◌, ◌/◌, ◌^◌, ◌<◌, ◌≤◌, ◌⊎◌, inl, inr, ⊎_elim, List, [], ◌∷◌, ◌++◌, length, drop, set, get_or, refl, sym, ◌∙◌, subst, arith}
 use Rattle.std.specs.Prelude.{All, Contains}
 use Rattle.std.specs.List.{concat}
 use Rattle.std.specs.List.Sorted.{IsStrictlyIncreasing}
-use Rattle.std.proofs.lemmas.Bool.{cases_lt, cases_eq}
+use Rattle.std.proofs.lemmas.Bool.{cases_lt}
 use Rattle.std.proofs.lemmas.List.{get_or-drop, length-drop}
-use Rattle.std.proofs.lemmas.List.Elements.{All-head, All-tail, All-weaker, Contains-get_or}
+use Rattle.std.proofs.lemmas.List.Elements.{All-head, All-tail, Contains-get_or}
 use mathlib.Core.Option.{some}
 use lib.ListN.{get_elem?}
 use Rattle.atomic_table.proofs.Lists.{set_else}
@@ -14,9 +14,9 @@ use Rattle.pq_array.proofs.Replacing.{rising_tail}
 use Rattle.pq_array.proofs.TreeLaws.{Counts-live_leaf, Counts-other_leaf}
 use Rattle.pq_board.specs.Sums.{weigh, times}
 use Rattle.pq_board.specs.Ways.{way, live_from, live_leaves}
-use Rattle.pq_board.specs.Law.{Lawful, leaves, job, nodes_at, lowerings_of, spent}
-use Rattle.pq_board.specs.Steps.{unused, without_rights, with_ticket, with_lowered, with_both, at_nodes, places_under}
-use Rattle.pq_board.specs.Kinds.{Seated, Step, split, claim, lower, join, survey}
+use Rattle.pq_board.specs.Law.{Lawful, leaves, job, nodes_at, lowerings_of}
+use Rattle.pq_board.specs.Steps.{with_ticket, with_lowered, with_both, at_nodes, places_under}
+use Rattle.pq_board.specs.Kinds.{Step, split, claim, lower, join, survey}
 use Rattle.pq_board.specs.declared.plan.Plan.{Plan}
 use Rattle.pq_board.specs.declared.plan.View.{View}
 use Rattle.pq_board.proofs.Sums.{weigh_le, below_joined}

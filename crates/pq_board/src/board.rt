@@ -6,7 +6,7 @@ ghost use Rattle.pq_board.specs.Sums.{weigh, times};
 ghost use Rattle.pq_board.specs.Ways.{way, live_leaves};
 ghost use Rattle.pq_board.specs.Law.{IsPlan, leaves, job, nodes_at, stake, late};
 ghost use Rattle.std.specs.Mem.Slots.{slots_items, slots_len, IsFull};
-ghost use Rattle.pq_board.specs.Steps.{BelongsTo, unused, without_rights, with_lowered, with_both, whole_way, lowered_places, Claimed, HoldAll, AreOnce, AreFirst, early, places_under};
+ghost use Rattle.pq_board.specs.Steps.{BelongsTo, unused, without_rights, with_lowered, with_both, whole_way, lowered_places, Claimed, HoldAll, AreOnce, AreFirst, early, places_under, without};
 
 use crate::jobs::Jobs;
 use crate::pass::Pass;
@@ -197,6 +197,7 @@ impl Board {
         ensures drawn { slice_index result.words.items 0 ≡ length pass.view.tickets }
         ensures counts { (node : ℕ) → 1 ≤ node →
             slice_index result.words.items node + places_under self.plan node (lowered_places pass.view.lowered) ≡ slice_index self.plan.words.items node }
+        ensures tree { Counts result.words.items (without (lowered_places pass.view.lowered) (live_leaves self.plan.words.items)) }
         ensures first { AreFirst pass.view.tickets }
         ensures all { 1 ≤ late self.plan pass.view.tickets → HoldAll self.plan pass.view.tickets }
         ensures receipt { result.receipt ≡ record {

@@ -70,7 +70,7 @@ near_stops {gates} {start} {place} {end} {near} so_far behind stuck p w next ins
 
 -- whose kind is the last that is put in,
 pub near_stops_at : {gates : List Gate} {start place end : ℕ} {near : List Bool} {kind : ℕ} {commuting : Bool} → IsNear gates start place near →
-    kind ≡ kind_of (gate_at gates place) → kind < 10 → start < place → IsTrue commuting ↔ Commutes (gate_at gates start) (gate_at gates place) → commuting ≡ false →
+    kind ≡ number_of (kind_of (gate_at gates place)) → kind < KINDS → start < place → IsTrue commuting ↔ Commutes (gate_at gates start) (gate_at gates place) → commuting ≡ false →
     HasKindsNear gates start end (set near kind true)
 near_stops_at so_far is few behind commuting stuck =
     near_stops (near_grows so_far is few) behind (λ alike. absurd (let yes = commuting.1 alike in cc))

@@ -1,4 +1,4 @@
-use Rattle.std.proofs.Common.{◌≡◌, ◌≤◌, arith}
+use Rattle.std.proofs.Common.{arith}
 use Rattle.pq_board.proofs.Keeping.{few_drawn, opens}
 use Rattle.pq_board.proofs.StepLaws.{step_keeps, word_least}
 use Rattle.pq_board.proofs.laws.board_law.Goals as goal

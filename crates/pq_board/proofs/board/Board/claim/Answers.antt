@@ -1,5 +1,4 @@
-use Rattle.std.proofs.Common.{◌≡◌, ◌+◌, ◌<◌, ◌≤◌, length, sym, ap, ◌∙◌, arith}
-use Rattle.pq_board.specs.Steps.{BelongsTo, with_ticket}
+use Rattle.std.proofs.Common.{sym, ◌∙◌, arith}
 use Rattle.pq_board.proofs.Keeping.{claimed_stake}
 use Rattle.pq_board.proofs.Allowed.{claim_allowed, plan_words}
 use Rattle.pq_board.proofs.board.Board.claim.Goals as goal
