@@ -11,7 +11,6 @@ ghost use Rattle.pq_board.specs.Steps.{BelongsTo, unused, without_rights, with_l
 use crate::jobs::Jobs;
 use crate::pass::Pass;
 use crate::plan::{Plan, View};
-use crate::receipt::Receipt;
 use crate::rule::{Aim, Claims, Gives, Law, Looks, Lowers, Part, Takes};
 use atomic_table::{Seat, Table};
 use pq_array::WordList;
@@ -245,6 +244,54 @@ pub struct Closed {
     pub words: WordList,
     pub jobs: Jobs,
     pub receipt: Receipt,
+}
+
+/// What the closing of a board says of it. Only `close` makes one, and it is neither copied nor cloned.
+/// Contracts see its four numbers.
+#[derive(Drop)]
+pub struct Receipt {
+    jobs: u64,
+    claimed: u64,
+    opened: u64,
+    closed: u64,
+}
+
+impl Model for Receipt {
+    ghost use Rattle.pq_board.specs.Steps.{Numbers};
+
+    ghost Value = { Numbers };
+
+    ghost view = { λ r. record { jobs = r.jobs; claimed = r.claimed; opened = r.opened; closed = r.closed } };
+}
+
+impl Receipt {
+    /// How many jobs there were.
+    pub fn jobs(&self) -> u64
+        ensures { result ≡ self.now.jobs }
+    {
+        self.jobs
+    }
+
+    /// How many tickets below the number of jobs were drawn.
+    pub fn claimed(&self) -> u64
+        ensures { result ≡ self.now.claimed }
+    {
+        self.claimed
+    }
+
+    /// The word of the root at the opening: how many leaves were live.
+    pub fn opened(&self) -> u64
+        ensures { result ≡ self.now.opened }
+    {
+        self.opened
+    }
+
+    /// The word of the root at the closing.
+    pub fn closed(&self) -> u64
+        ensures { result ≡ self.now.closed }
+    {
+        self.closed
+    }
 }
 
 /// Lowers the words from a leaf up to the root.
