@@ -1,6 +1,7 @@
 use Rattle.std.specs.List.{filter_map}
 use Rattle.std.specs.List.Sorted.{IsStrictlyIncreasing}
-use Rattle.std.specs.Prelude.{◌≡◌, ℕ, ◌+◌, ◌<◌, Option, Some, None, List, [], ◌∷◌, ◌++◌, length, take, drop, slice_index, slice_index_or, slice_get, IsSome, All, Contains}
+use Rattle.std.specs.Prelude.{◌≡◌, ℕ, ◌+◌, ◌<◌, Option, Some, None, List, [], ◌∷◌, length, take, slice_index, slice_index_or, slice_get, IsSome, All, Contains}
+pub use Rattle.pq_list.specs.Spliced.{spliced}
 
 -- the gates that are left, in order of place: a cell holds a gate, or is a tombstone
 abbrev pub live : {A : Type 0} → List (Option A) → List A
@@ -38,7 +39,3 @@ pub record Replaces {A : Type 0} (old new : List (Option A)) (places : List ℕ)
       slice_index_or new (slice_index places i) None ≡ slice_get output i
   pub others : (place : ℕ) → (Contains places place → ⊥) →
       slice_index_or new place None ≡ slice_index_or old place None
-
--- the list with this part in place of its items from the number `first` up to the number `end`
-abbrev pub spliced : {A : Type 0} → List A → ℕ → ℕ → List A → List A
-spliced items first end part = take first items ++ (part ++ drop end items)

@@ -38,6 +38,12 @@ pub first_after : {X Y : Type 0} (h : X → Option Y) (xs : List X) (i : ℕ) (d
     → slice_get (filter_map h (drop (i + 1) xs)) 0 ≡ slice_get (filter_map h (drop i xs)) 0
 first_after h xs i d lt is = rw add-one (after_suc h xs i d lt is)
 
+-- an option without a fault is passed over
+pub fault_after : (command : Command) (rows : List Row) (i : ℕ) → i < length switches → None ≡ switch_fault command rows (slice_index_or switches i Omega)
+    → slice_get (filter_map (switch_fault command rows) (drop i switches)) 0 ≡ first_fault command rows
+    → slice_get (filter_map (switch_fault command rows) (drop (i + 1) switches)) 0 ≡ first_fault command rows
+fault_after command rows i lt none rest = first_after (switch_fault command rows) switches i Omega lt none ∙ rest
+
 text_is_sound : (command : Command) (rows : List Row) (switch : Switch) → switch_fault command rows switch ≡ None → option_map_or (text_fault switch) (given rows switch) None ≡ None
 text_is_sound command rows switch h = go (given rows switch) (is_taken command switch) (is_needed command switch) h
   where

@@ -15,14 +15,16 @@ use Rattle.pq_command.specs.declared.settings.Command.TheVariants.{Opt, Check, G
 use Rattle.pq_command.specs.declared.settings.Settings.{Settings}
 use Rattle.pq_command.specs.CommandLine.{app}
 use Rattle.pq_command.specs.Asked.{IsFaultless, asked, asked_by, command_of, first_fault, given, greatest, is_flag, is_in_range, is_needed, is_number, is_taken, least, number_or, settings_of, settings_or_fault, switch_fault, switches, text_fault}
-use Rattle.pq_command.specs.Ranges.{AreQubits, AreWorkers, IsBetween, IsInRange, IsOmega}
+use Rattle.pq_limits.specs.Limits.{AreQubits, AreWorkers, IsBetween, IsOmega}
+use Rattle.pq_limits.specs.declared.TheConstants.{DEFAULT_OMEGA, DEFAULT_WORKERS, MAX_GATES}
+use Rattle.pq_command.specs.Ranges.{IsInRange}
 use Rattle.pq_command.proofs.Faultless.{gates_faultless, no_switch_fault, omega_faultless, qubits_faultless, seed_faultless, workers_faultless}
 
 -- a text without a fault has a number in the range
 text_between : (switch : Switch) (text : Text) → is_flag switch ≡ false → text_fault switch text ≡ None → IsBetween (least switch) (greatest switch) (digits_value 10 text)
 text_between switch text has_text h =
     let parts = both _ _ (go (is_number text) (is_in_range switch (digits_value 10 text)) (rw has_text at h)) in
-    record { least = leb-true _ _ parts.0; greatest = leb-true _ _ parts.1 }
+    record { least = leb-true _ _ parts.0; most = leb-true _ _ parts.1 }
   where
     go : (n r : Bool) → cond (not n) (Some (fault.Number switch)) (cond r None (Some (fault.Range switch))) ≡ None → r ≡ true
     go true true e = refl
@@ -48,18 +50,18 @@ needed_given command rows switch h needed none =
 pub settings_in_range : (command : Command) (rows : List Row) → first_fault command rows ≡ None → IsInRange (settings_of command rows)
 settings_in_range command rows h = go command h
   where
-    omega_in : (c : Command) → first_fault c rows ≡ None → IsOmega (number_or 64 rows Omega)
-    omega_in c e = number_between rows Omega 64 (omega_faultless c rows e) (λ none. record { least = omega arith; greatest = omega arith })
+    omega_in : (c : Command) → first_fault c rows ≡ None → IsOmega (number_or DEFAULT_OMEGA rows Omega)
+    omega_in c e = number_between rows Omega DEFAULT_OMEGA (omega_faultless c rows e) (λ none. record { least = omega arith; most = omega arith })
 
-    workers_in : (c : Command) → first_fault c rows ≡ None → AreWorkers (number_or 4 rows Workers)
-    workers_in c e = number_between rows Workers 4 (workers_faultless c rows e) (λ none. record { least = omega arith; greatest = omega arith })
+    workers_in : (c : Command) → first_fault c rows ≡ None → AreWorkers (number_or DEFAULT_WORKERS rows Workers)
+    workers_in c e = number_between rows Workers DEFAULT_WORKERS (workers_faultless c rows e) (λ none. record { least = omega arith; most = omega arith })
 
     qubits_in : (c : Command) → first_fault c rows ≡ None → is_needed c Qubits ≡ true → AreQubits (number_or 0 rows Qubits)
     qubits_in c e needed = number_between rows Qubits 0 (qubits_faultless c rows e)
         (λ none. absurd (needed_given c rows Qubits (no_switch_fault c rows 4 Qubits e (omega arith) refl) needed none))
 
-    gates_in : (c : Command) → first_fault c rows ≡ None → number_or 0 rows Gates ≤ 1048576
-    gates_in c e = (number_between rows Gates 0 (gates_faultless c rows e) (λ none. record { least = omega arith; greatest = omega arith })).greatest
+    gates_in : (c : Command) → first_fault c rows ≡ None → number_or 0 rows Gates ≤ MAX_GATES
+    gates_in c e = (number_between rows Gates 0 (gates_faultless c rows e) (λ none. record { least = omega arith; most = omega arith })).most
 
     go : (c : Command) → first_fault c rows ≡ None → IsInRange (settings_of c rows)
     go Opt e = (omega_in Opt e, workers_in Opt e)

@@ -16,7 +16,7 @@ use Rattle.std.proofs.lemmas.Str.Parse.{IsNumeralModel, numerals_by_value, tells
 use Rattle.pq_command.specs.Asked.{is_number}
 
 -- a test of each element is `list_all`
-same_test : (p : ℕ → Bool) (r : Bool) (xs : List ℕ) → (IsTrue r ↔ ((k : ℕ) → k < length xs → p (get_or xs k 0) ≡ true)) → r ≡ list_all p xs
+pub same_test : (p : ℕ → Bool) (r : Bool) (xs : List ℕ) → (IsTrue r ↔ ((k : ℕ) → k < length xs → p (get_or xs k 0) ≡ true)) → r ≡ list_all p xs
 same_test p r xs h = both_ways r (list_all p xs)
     (λ passes. list_all-from_AllPass p xs (λ k d lt. ap p (get_or_default xs k d 0 lt) ∙ h.0 passes k lt))
     (λ all. h.1 (λ k lt. AllPass-from_list_all p xs all k 0 lt))

@@ -6,6 +6,7 @@ use Rattle.std.specs.Char.{is_ascii_digit}
 use Rattle.std.specs.Str.{bytes_eq}
 use Rattle.std.specs.Str.Parse.{digits_value}
 use Rattle.clap.specs.Words.{Row, Text, first_of, matches_of, takes}
+use Rattle.pq_limits.specs.declared.TheConstants.{MIN_OMEGA, MAX_OMEGA, DEFAULT_OMEGA, MIN_WORKERS, MAX_WORKERS, DEFAULT_WORKERS, MIN_QUBITS, MAX_QUBITS, MAX_GATES}
 use Rattle.pq_command.specs.declared.fault.Switch.{Switch}
 use Rattle.pq_command.specs.declared.fault.Switch.TheVariants.{Omega, Workers, DropBarriers, Seed, Qubits, Gates}
 use Rattle.pq_command.specs.declared.fault.UsageFault.{UsageFault}
@@ -56,16 +57,16 @@ is_needed _ _ = false
 
 -- the least and the greatest number that an option may have
 abbrev pub least : Switch → ℕ
-least Omega = 2
-least Workers = 1
-least Qubits = 1
+least Omega = MIN_OMEGA
+least Workers = MIN_WORKERS
+least Qubits = MIN_QUBITS
 least _ = 0
 
 abbrev pub greatest : Switch → ℕ
-greatest Omega = 1024
-greatest Workers = 64
-greatest Qubits = 4096
-greatest Gates = 1048576
+greatest Omega = MAX_OMEGA
+greatest Workers = MAX_WORKERS
+greatest Qubits = MAX_QUBITS
+greatest Gates = MAX_GATES
 greatest _ = 2 ^ 64 - 1
 
 -- 1 to 20 decimal digits
@@ -125,10 +126,10 @@ number_or default rows switch = option_map_or (digits_value 10) (given rows swit
 
 -- the settings of a command without a fault
 abbrev pub settings_of : Command → List Row → Settings
-settings_of Opt rows = settings.Opt (number_or 64 rows Omega) (number_or 4 rows Workers) (is_some (given rows DropBarriers))
-settings_of Check rows = settings.Check (number_or 64 rows Omega) (is_some (given rows DropBarriers))
+settings_of Opt rows = settings.Opt (number_or DEFAULT_OMEGA rows Omega) (number_or DEFAULT_WORKERS rows Workers) (is_some (given rows DropBarriers))
+settings_of Check rows = settings.Check (number_or DEFAULT_OMEGA rows Omega) (is_some (given rows DropBarriers))
 settings_of Gen rows = settings.Gen (number_or 0 rows Seed) (number_or 0 rows Qubits) (number_or 0 rows Gates)
-settings_of Bench rows = settings.Bench (number_or 64 rows Omega) (number_or 4 rows Workers)
+settings_of Bench rows = settings.Bench (number_or DEFAULT_OMEGA rows Omega) (number_or DEFAULT_WORKERS rows Workers)
     (number_or 0 rows Seed) (number_or 0 rows Qubits) (number_or 0 rows Gates)
 
 -- the settings of a command, or the first fault of its options

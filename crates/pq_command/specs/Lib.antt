@@ -1,3 +1,4 @@
+pub use Rattle.pq_limits.specs.Limits
 pub mod CommandLine
 pub mod Asked
 pub mod Ranges

@@ -1,7 +1,7 @@
 ghost use Rattle.std.specs.Prelude.{◌≡◌, true, false, IfOk, IfErr, map};
 ghost use Rattle.std.specs.String.{string_bytes};
 ghost use Rattle.clap.specs.Words.{app_of, found_of, matches_of, rows_of, rule_of, takes};
-ghost use Rattle.pq_command.specs.CommandLine.{app, flag_rule, option_rule, word_rule};
+ghost use Rattle.pq_command.specs.CommandLine.{app, bare, flag_rule, option_rule, word_rule};
 ghost use Rattle.pq_command.specs.Asked.{IsUntaken};
 
 use crate::fault::{UsageFault, WordsError};
@@ -29,10 +29,7 @@ pub fn matched<'a>(alloc: Global, words: &'a [String]) -> Result<ArgMatches<'a>,
 fn command_line<'a>(alloc: Global) -> Result<Command<'a>, AllocError>
     ensures { IfOk result (λ command. app_of command ≡ app) }
 {
-    Command::new(alloc, "popqc")
-        .no_binary_name(true)
-        .disable_help_flag(true)
-        .disable_version_flag(true)
+    bare_command(alloc)
         .arg(word(alloc, "command"))?
         .arg(option(alloc, "omega"))?
         .arg(option(alloc, "workers"))?
@@ -40,6 +37,16 @@ fn command_line<'a>(alloc: Global) -> Result<Command<'a>, AllocError>
         .arg(option(alloc, "seed"))?
         .arg(option(alloc, "qubits"))?
         .arg(option(alloc, "gates"))
+}
+
+/// The command without arguments: no word is the program's name, and no flag asks for help or the version.
+fn bare_command<'a>(alloc: Global) -> Command<'a>
+    ensures { app_of result ≡ bare }
+{
+    Command::new(alloc, "popqc")
+        .no_binary_name(true)
+        .disable_help_flag(true)
+        .disable_version_flag(true)
 }
 
 /// A word that must stand.

@@ -1,4 +1,6 @@
 ghost use Rattle.std.specs.Prelude.{◌≡◌, ◌<◌, ◌≤◌, ◌^◌, SomeIff, option_map, true};
+ghost use Rattle.std.specs.Char.{is_ascii_digit};
+ghost use Rattle.std.specs.List.{list_all};
 ghost use Rattle.std.specs.Str.Parse.{digits_value};
 ghost use Rattle.clap.specs.Words.{found_of, rows_of};
 ghost use Rattle.pq_command.specs.Asked as asked;
@@ -6,6 +8,9 @@ ghost use Rattle.pq_command.specs.Asked as asked;
 use crate::fault::{Switch, UsageFault};
 use crate::settings::Command;
 use clap::ArgMatches;
+use pq_limits::{
+    MAX_GATES, MAX_OMEGA, MAX_QUBITS, MAX_WORKERS, MIN_OMEGA, MIN_QUBITS, MIN_WORKERS,
+};
 
 // the most digits of a number
 const MAX_DIGITS: usize = 20;
@@ -84,7 +89,15 @@ fn fault_of_text(switch: Switch, text: &str) -> Option<UsageFault>
 fn is_number(text: &[u8]) -> bool
     ensures { result ≡ asked.is_number text.now }
 {
-    !text.is_empty() && text.len() <= MAX_DIGITS && text.iter().all(|byte| byte.is_ascii_digit())
+    !text.is_empty() && text.len() <= MAX_DIGITS && are_digits(text)
+}
+
+/// Whether each byte is a decimal digit.
+#[tactic(auto, using(crate::proofs::Numbers::same_test))]
+fn are_digits(text: &[u8]) -> bool
+    ensures { result ≡ list_all is_ascii_digit text.now }
+{
+    text.iter().all(|byte| byte.is_ascii_digit())
 }
 
 /// The value of a number, where it is below 2^64.
@@ -95,17 +108,26 @@ fn value_of(text: &str) -> Option<u64>
     text.parse::<u64>().ok()
 }
 
+/// The least and the greatest number that an option may have.
+fn range_of(switch: Switch) -> (u64, u64)
+    ensures least { result.0 ≡ asked.least switch }
+    ensures greatest { result.1 ≡ asked.greatest switch }
+{
+    match switch {
+        Switch::Omega => (u64::from(MIN_OMEGA), u64::from(MAX_OMEGA)),
+        Switch::Workers => (u64::from(MIN_WORKERS), u64::from(MAX_WORKERS)),
+        Switch::Qubits => (u64::from(MIN_QUBITS), u64::from(MAX_QUBITS)),
+        Switch::Gates => (0, u64::from(MAX_GATES)),
+        Switch::Seed | Switch::DropBarriers => (0, u64::MAX),
+    }
+}
+
 /// Whether a number lies in the range of an option.
 fn is_in_range(switch: Switch, number: u64) -> bool
     ensures { result ≡ asked.is_in_range switch number }
 {
-    match switch {
-        Switch::Omega => 2 <= number && number <= 1024,
-        Switch::Workers => 1 <= number && number <= 64,
-        Switch::Qubits => 1 <= number && number <= 4096,
-        Switch::Gates => number <= 1_048_576,
-        Switch::Seed | Switch::DropBarriers => true,
-    }
+    let (least, greatest) = range_of(switch);
+    least <= number && number <= greatest
 }
 
 /// The number that was given with an option, or else the default one.

@@ -10,6 +10,7 @@ use crate::line::matched;
 use crate::options::{fault_of, number, text_of};
 use crate::settings::{Command, Settings};
 use clap::ArgMatches;
+use pq_limits::{DEFAULT_OMEGA, DEFAULT_WORKERS};
 use std::alloc::Global;
 
 // the options, in the order in which they are looked at
@@ -64,6 +65,7 @@ fn command_named(word: &str) -> Option<Command>
 }
 
 /// The first fault of all options.
+#[tactic(auto, using(crate::proofs::Faultless::first_here, crate::proofs::Faultless::fault_after))]
 fn first_fault(matches: &ArgMatches, command: Command) -> Option<UsageFault>
     ensures { result ≡ spec.first_fault command (rows_of (found_of matches.now)) }
 {
@@ -80,8 +82,8 @@ fn with_numbers(matches: &ArgMatches, command: Command) -> Settings
     requires { spec.first_fault command (rows_of (found_of matches.now)) ≡ None }
     ensures { result ≡ settings_of command (rows_of (found_of matches.now)) }
 {
-    let omega = small_number(matches, Switch::Omega, 64);
-    let workers = small_number(matches, Switch::Workers, 4);
+    let omega = small_number(matches, Switch::Omega, DEFAULT_OMEGA);
+    let workers = small_number(matches, Switch::Workers, DEFAULT_WORKERS);
     let drop_barriers = text_of(matches, Switch::DropBarriers).is_some();
     let seed = number(matches, Switch::Seed, 0);
     let qubits = small_number(matches, Switch::Qubits, 0);

@@ -4,12 +4,13 @@ use Rattle.std.specs.List.{All, flat_map}
 use Rattle.std.proofs.lemmas.Bool.{eqb-true, or_cases, false≢true}
 use Rattle.std.proofs.lemmas.List.{append-nil, take_more, flat_map_more}
 use Rattle.pq_finger.specs.declared.cut.Cut.{Cut}
-use Rattle.pq_finger.specs.Gaps.{ascending}
+use Rattle.pq_gaps.specs.Gaps.{ascending}
 use Rattle.pq_finger.specs.Settled.{new_places}
 use Rattle.pq_finger.specs.Settling.{first_edge}
-use Rattle.pq_finger.proofs.Ascending.{member, member-append, member-ascending}
-use Rattle.pq_finger.proofs.Rising.{all_member, All-from_member}
-use Rattle.pq_finger.proofs.Putting.{ascending-front, ascending_increasing, up_to_to}
+use Rattle.pq_gaps.proofs.Ascending.{member, member-append, member-ascending}
+use Rattle.pq_gaps.proofs.Rising.{all_member, All-from_member}
+use Rattle.pq_gaps.proofs.Putting.{ascending-front, ascending_increasing}
+use Rattle.pq_finger.proofs.Edges.{up_to_to}
 
 -- what is put behind a list, in two parts
 pub ascending_parts : (start front back list : List ℕ) → list ≡ ascending (start ++ front) →

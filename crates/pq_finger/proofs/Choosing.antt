@@ -4,10 +4,10 @@ use Rattle.std.specs.List.{All, slice_index}
 use Rattle.std.specs.List.Sorted.{IsStrictlyIncreasing}
 use Rattle.std.proofs.lemmas.List.{append-nil, drop_all, drop_more, map_push}
 use Rattle.std.proofs.lemmas.List.Elements.{All-push}
-use Rattle.pq_finger.specs.Gaps.{selected, selected_from}
+use Rattle.pq_gaps.specs.Gaps.{selected, selected_from}
 use Rattle.pq_finger.specs.Selecting.{least_after}
-use Rattle.pq_finger.proofs.Rising.{with_number_end, all_member}
-use Rattle.pq_finger.proofs.Putting.{increasing-with_number}
+use Rattle.pq_gaps.proofs.Rising.{with_number_end, all_member}
+use Rattle.pq_gaps.proofs.Putting.{increasing-with_number}
 use Rattle.pq_finger.proofs.Halfway.{place_up_to}
 
 -- of the gaps before this index the selected ones are chosen

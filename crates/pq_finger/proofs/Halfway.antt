@@ -7,11 +7,11 @@ use Rattle.std.proofs.lemmas.List.Kept.{AllPairs-from_increasing}
 use Rattle.std.proofs.lemmas.List.Elements.{filter_more}
 use Rattle.std.proofs.lemmas.List.Folds.{list_any_none, list_any_at}
 use Rattle.pq_finger.specs.declared.cut.Cut.{Cut}
-use Rattle.pq_finger.specs.Gaps.{with_number, ascending, is_inside}
+use Rattle.pq_gaps.specs.Gaps.{with_number, ascending, is_inside}
 use Rattle.pq_finger.specs.Settled.{is_dropped, new_places, AreInOrder}
 use Rattle.pq_finger.specs.Settling.{IsBefore, first_edge, SettledUpTo, IsAtFinger}
-use Rattle.pq_finger.proofs.Ascending.{member, Rises-with_number, Rises-ascending, member-with_number, member-append, member-ascending, same_rising}
-use Rattle.pq_finger.proofs.Rising.{all_member, All-from_member}
+use Rattle.pq_gaps.proofs.Ascending.{member, Rises-with_number, Rises-ascending, member-with_number, member-append, member-ascending, same_rising}
+use Rattle.pq_gaps.proofs.Rising.{all_member, All-from_member}
 use Rattle.pq_finger.proofs.Boundaries.{boundaries_more, reaches_to, ahead_next}
 
 -- the finger of this place stays

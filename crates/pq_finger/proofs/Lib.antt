@@ -1,13 +1,9 @@
-pub mod Ascending
-pub mod Rising
-pub mod Putting
+pub mod Edges
 pub mod Boundaries
 pub mod Halfway
 pub mod Whole
 pub mod Moving
-pub mod Multiples
 pub mod Choosing
-pub mod Selections
 pub mod Exactly
 pub mod RankLaws
 pub mod RoundRanks

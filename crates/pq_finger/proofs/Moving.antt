@@ -2,8 +2,8 @@ use Rattle.std.proofs.Common.{◌≡◌, ℕ, suc, ◌<◌, ◌≤◌, Bool, tru
 use Rattle.std.specs.List.{dedup, dedup_from}
 use Rattle.std.specs.List.Sorted.{IsNonDecreasing}
 use Rattle.std.proofs.lemmas.Bool.{cases_order, eq-eqb, ne_eqb}
-use Rattle.pq_finger.specs.Gaps.{ascending}
-use Rattle.pq_finger.proofs.Ascending.{member, Rises, same_rising, Rises-ascending, member-ascending, or_again}
+use Rattle.pq_gaps.specs.Gaps.{ascending}
+use Rattle.pq_gaps.proofs.Ascending.{member, Rises, same_rising, Rises-ascending, member-ascending, or_again}
 
 -- numbers that don't fall, from the first on
 abbrev pub Climbs : ℕ → List ℕ → Type 0

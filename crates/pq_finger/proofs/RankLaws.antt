@@ -5,13 +5,13 @@ use Rattle.std.specs.List.Sorted.{IsStrictlyIncreasing}
 use Rattle.std.proofs.lemmas.Bool.{cases_Bool, cases_order, cases_lt, eqb-true, eq-eqb, ne_eqb, le-ltb, lt-ltb, or_cases, and_parts, false≢true}
 use Rattle.std.proofs.lemmas.List.{map-append, get_or-map, length-map}
 use Rattle.pq_finger.specs.declared.cut.Cut.{Cut}
-use Rattle.pq_finger.specs.Gaps.{with_number, ascending, kept_gaps, new_gaps, is_dropped_gap, GapCut, selected}
+use Rattle.pq_gaps.specs.Gaps.{with_number, ascending, kept_gaps, new_gaps, is_dropped_gap, GapCut, selected}
 use Rattle.pq_finger.specs.Settled.{settled, is_dropped, new_places, AreInOrder}
 use Rattle.pq_finger.specs.Ranks.{IsRank, IsAtPlaces, AreCutsOf}
-use Rattle.pq_finger.proofs.Ascending.{member, member-append, member-ascending, member_here}
-use Rattle.pq_finger.proofs.Rising.{all_member}
-use Rattle.pq_finger.proofs.Exactly.{member-filter}
-use Rattle.pq_finger.proofs.Selections.{selected_far}
+use Rattle.pq_gaps.proofs.Ascending.{member, member-append, member-ascending, member_here}
+use Rattle.pq_gaps.proofs.Rising.{all_member}
+use Rattle.pq_gaps.proofs.KeptGaps.{member-filter}
+use Rattle.pq_gaps.proofs.Selections.{selected_far}
 use Rattle.pq_finger.proofs.Halfway.{place_up_to}
 
 -- places that stand are in the order of their ranks

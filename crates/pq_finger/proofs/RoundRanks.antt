@@ -5,13 +5,13 @@ use Rattle.std.proofs.lemmas.List.Elements.{All-cons, All-nil, All-head, All-tai
 use Rattle.std.proofs.lemmas.List.{get_or_default}
 use Rattle.std.proofs.lemmas.List.Folds.{list_any_at, Any-from_list_any}
 use Rattle.pq_finger.specs.declared.cut.Cut.{Cut}
-use Rattle.pq_finger.specs.Gaps.{ascending, lost_before, moved_gap, new_fingers, is_inside, GapCut}
+use Rattle.pq_gaps.specs.Gaps.{ascending, lost_before, moved_gap, new_fingers, is_inside, GapCut}
 use Rattle.pq_finger.specs.Settled.{settled, is_dropped, new_places, AreInOrder}
 use Rattle.pq_finger.specs.Ranks.{IsRank, IsAtPlaces, LosesGates}
-use Rattle.pq_finger.proofs.Ascending.{member, member_here}
-use Rattle.pq_finger.proofs.Rising.{all_member}
+use Rattle.pq_gaps.proofs.Ascending.{member, member_here}
+use Rattle.pq_gaps.proofs.Rising.{all_member}
 use Rattle.pq_finger.proofs.RankLaws.{map-ascending, settled_ranked, flat_stand}
-use Rattle.pq_finger.proofs.Exactly.{member_kept, member-flat_map, edges_exactly}
+use Rattle.pq_gaps.proofs.KeptGaps.{member_kept, member-flat_map, edges_exactly}
 use Rattle.pq_finger.proofs.Halfway.{not_turned}
 
 -- the place isn't strictly inside the cut's segment, where that was improved

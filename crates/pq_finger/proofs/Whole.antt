@@ -5,10 +5,10 @@ use Rattle.std.proofs.lemmas.List.{take_all, take-append-drop, get_or-drop, leng
 use Rattle.std.proofs.lemmas.List.Elements.{All-drop}
 use Rattle.std.proofs.lemmas.Grind.{flat_map-append}
 use Rattle.pq_finger.specs.declared.cut.Cut.{Cut}
-use Rattle.pq_finger.specs.Gaps.{ascending}
+use Rattle.pq_gaps.specs.Gaps.{ascending}
 use Rattle.pq_finger.specs.Settled.{settled, new_places, AreInOrder}
 use Rattle.pq_finger.specs.Settling.{first_edge, SettledUpTo}
-use Rattle.pq_finger.proofs.Putting.{increasing-ascending}
+use Rattle.pq_gaps.proofs.Putting.{increasing-ascending}
 use Rattle.pq_finger.proofs.Boundaries.{ascending_parts}
 use Rattle.pq_finger.proofs.Halfway.{stays, not_turned}
 

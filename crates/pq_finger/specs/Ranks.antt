@@ -1,7 +1,7 @@
 use Rattle.std.specs.Prelude.{◌≡◌, ◌↔◌, ◌⊎◌, ℕ, ◌+◌, ◌<◌, ◌≤◌, Bool, IsTrue, List, length, map, slice_index, All}
 use Rattle.std.specs.List.{AllZip}
 use Rattle.pq_finger.specs.declared.cut.Cut.{Cut}
-use Rattle.pq_finger.specs.Gaps.{GapCut, segment_from, segment_to, selected}
+use Rattle.pq_gaps.specs.Gaps.{GapCut, segment_from, segment_to, selected}
 
 -- The gap of a place is its rank, the number of live cells before it. Of the places of live cells and
 -- the end, which are those that `stands` tells, a later one has the greater rank.

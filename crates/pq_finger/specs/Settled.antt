@@ -1,7 +1,7 @@
 use Rattle.std.specs.Prelude.{◌≡◌, ◌⊎◌, ℕ, ◌<◌, ◌≤◌, Bool, false, ◌||◌, not, ◌==◌, List, ◌++◌, length, filter, slice_index, All, AllPairs, IsTrue}
 use Rattle.std.specs.List.{list_any, flat_map}
 use Rattle.pq_finger.specs.declared.cut.Cut.{Cut}
-use Rattle.pq_finger.specs.Gaps.{ascending, is_inside, inner_edges}
+use Rattle.pq_gaps.specs.Gaps.{ascending, is_inside, inner_edges}
 
 -- the finger at this place was selected, or stands strictly inside the segment, which was improved
 abbrev pub is_dropped : List ℕ → ℕ → Cut → Bool

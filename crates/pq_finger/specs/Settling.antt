@@ -1,7 +1,7 @@
 use Rattle.std.specs.Prelude.{◌≡◌, ℕ, ◌+◌, ◌*◌, ◌<◌, ◌≤◌, not, if◌then◌else◌, List, ◌++◌, length, take, filter, slice_index, slice_index_or, All}
 use Rattle.std.specs.List.{list_any, flat_map}
 use Rattle.pq_finger.specs.declared.cut.Cut.{Cut}
-use Rattle.pq_finger.specs.Gaps.{ascending}
+use Rattle.pq_gaps.specs.Gaps.{ascending}
 use Rattle.pq_finger.specs.Settled.{is_dropped, new_places}
 
 -- the cut's finger and its segment come before the finger of this index at this place

@@ -1,5 +1,5 @@
 ghost use Rattle.std.specs.Prelude.{◌≡◌, ◌↔◌, ◌&&◌, ◌||◌, not, ◌==◌, IsTrue};
-ghost use Rattle.pq_finger.specs.Gaps.{is_inside};
+ghost use Rattle.pq_gaps.specs.Gaps.{is_inside};
 ghost use Rattle.pq_finger.specs.Settling.{IsBefore};
 
 /// What a round did at one selected finger. Places are those of the cells before the round.

@@ -11,11 +11,10 @@ mod settling;
 pub use cut::Cut;
 pub use fingers::Fingers;
 pub use laws::{
-    cuts_of_a_round_are_in_order, first_fingers_are_multiples, kept_gaps_are_kept,
-    moved_places_have_the_new_gaps, selected_is_one_list, selected_segments_are_apart,
-    settled_places_are_kept, settled_places_have_the_kept_gaps,
+    cuts_of_a_round_are_in_order, moved_places_have_the_new_gaps, settled_places_are_kept,
+    settled_places_have_the_kept_gaps,
 };
-pub use pq_io::PlaceList;
+pub use pq_list::PlaceList;
 
 #[cfg(test)]
 mod tests;

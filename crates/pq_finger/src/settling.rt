@@ -1,7 +1,7 @@
 ghost use Rattle.std.specs.Prelude.{◌≡◌, ◌+◌, ◌*◌, ◌<◌, ◌≤◌, if◌then◌else◌, [], ◌++◌, All, AllPairs, IsTrue, length, slice_index_or, vec_len, vec_capacity};
 ghost use Rattle.std.specs.List.{flat_map};
 ghost use Rattle.std.specs.List.Sorted.{IsStrictlyIncreasing};
-ghost use Rattle.pq_finger.specs.Gaps.{ascending, with_number};
+ghost use Rattle.pq_gaps.specs.Gaps.{ascending, with_number};
 ghost use Rattle.pq_finger.specs.Settled.{new_places, AreInOrder};
 ghost use Rattle.pq_finger.specs.Settling.{first_edge, settled_front, SettledUpTo, IsAtFinger};
 ghost use Rattle.pq_finger.specs.declared.cut.Cut.{Cut};

@@ -5,9 +5,12 @@ pub mod EntryLaws
 pub mod ExchangeLaws
 pub mod FormLaws
 pub mod InverseLaws
+pub mod KindLaws
 pub mod MoveLaws
 pub mod PairLaws
 pub mod PhaseLaws
 pub mod RangeLaws
 pub mod RingLaws
+pub mod RoleLaws
 pub mod SameLaws
+pub mod WireLaws

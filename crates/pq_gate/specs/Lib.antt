@@ -4,6 +4,9 @@ pub mod Circuit
 pub mod Commuting
 pub mod Eighths
 pub mod Inverse
+pub mod Kind
 pub mod Matrix
 pub mod Phases
+pub mod Ports
 pub mod Ring
+pub mod Role

@@ -1,8 +1,9 @@
-ghost use Rattle.std.specs.Prelude.{◌≡◌, ◌↔◌, ◌⊎◌, ℕ, IsTrue};
-ghost use Rattle.pq_gate.specs.Commuting.{Touches, AlongZ, AlongX, Agree, Commutes};
+ghost use Rattle.std.specs.Prelude.{◌≡◌, ◌↔◌, IsTrue};
+ghost use Rattle.pq_gate.specs.Commuting.{Agree, Commutes};
 ghost use Rattle.pq_gate.specs.Inverse.{rest_of, inverse_of};
 
 use crate::gate::{Eighths, Gate};
+use crate::role::Axis;
 
 /// The gate that undoes the gate: H, X, Z and CX are their own inverses, S and the inverse of S, T
 /// and the inverse of T are exchanged.
@@ -37,62 +38,17 @@ fn rest(eighths: Eighths) -> Eighths
 pub fn commutes(first: Gate, second: Gate) -> bool
     ensures { IsTrue result ↔ Commutes first second }
 {
-    let (one, other) = wires(first);
-    agree(first, second, one) && agree(first, second, other)
-}
-
-// the wires that the gate uses: one twice, if it uses one only
-fn wires(gate: Gate) -> (u32, u32)
-    ensures { (w : ℕ) → Touches gate w → (w ≡ result.0) ⊎ (w ≡ result.1) }
-{
-    match gate {
-        Gate::H { wire } | Gate::X { wire } | Gate::Phase { wire, .. } => (wire, wire),
-        Gate::Cx { control, target } => (control, target),
-    }
+    agree(first, second, first.first_wire()) && agree(first, second, first.last_wire())
 }
 
 // whether the gates act along one axis on the wire, if both use it
 fn agree(first: Gate, second: Gate, wire: u32) -> bool
     ensures { IsTrue result ↔ Agree first second wire }
 {
-    !uses(first, wire)
-        || !uses(second, wire)
-        || (acts_along_z(first, wire) && acts_along_z(second, wire))
-        || (acts_along_x(first, wire) && acts_along_x(second, wire))
-}
-
-// whether the gate uses the wire
-fn uses(gate: Gate, wire: u32) -> bool
-    ensures { IsTrue result ↔ Touches gate wire }
-{
-    match gate {
-        Gate::H { wire: own } => own == wire,
-        Gate::X { wire: own } => own == wire,
-        Gate::Phase { wire: own, .. } => own == wire,
-        Gate::Cx { control, target } => control == wire || target == wire,
-    }
-}
-
-// whether the gate acts on the wire along Z
-fn acts_along_z(gate: Gate, wire: u32) -> bool
-    ensures { IsTrue result ↔ AlongZ gate wire }
-{
-    match gate {
-        Gate::H { .. } | Gate::X { .. } => false,
-        Gate::Phase { wire: own, .. } => own == wire,
-        Gate::Cx { control, .. } => control == wire,
-    }
-}
-
-// whether the gate acts on the wire along X
-fn acts_along_x(gate: Gate, wire: u32) -> bool
-    ensures { IsTrue result ↔ AlongX gate wire }
-{
-    match gate {
-        Gate::H { .. } | Gate::Phase { .. } => false,
-        Gate::X { wire: own } => own == wire,
-        Gate::Cx { target, .. } => target == wire,
-    }
+    !first.touches(wire)
+        || !second.touches(wire)
+        || (first.acts_along(Axis::Z, wire) && second.acts_along(Axis::Z, wire))
+        || (first.acts_along(Axis::X, wire) && second.acts_along(Axis::X, wire))
 }
 
 #[cfg(test)]

@@ -2,20 +2,28 @@
 //! a caller's proof has the fact after the call.
 #![tactic(auto, unfolding(crate::specs::Ring::nought, crate::specs::Ring::one, crate::specs::Ring::plus, crate::specs::Ring::turn))]
 
-ghost use Rattle.std.specs.Prelude.{◌≡◌, ◌≢◌, ◌↔◌, ℕ, ◌+◌, ◌-◌, ◌%◌, ◌<◌, Bool, true, false, pos, negsuc, List, [], ◌∷◌, ◌++◌, IsTrue};
+ghost use Rattle.std.specs.Prelude.{◌≡◌, ◌≢◌, ◌↔◌, ◌⊎◌, ℕ, ◌+◌, ◌-◌, ◌%◌, ◌<◌, Bool, true, false, pos, negsuc, List, [], ◌∷◌, ◌++◌, IsTrue};
 ghost use Rattle.pq_gate.specs.declared.gate.Gate.{Gate};
 ghost use Rattle.pq_gate.specs.declared.ring.Ring.{Ring};
 ghost use Rattle.pq_gate.specs.Bits.{same_bits};
 ghost use Rattle.std.specs.List.{AllByRecursion};
 ghost use Rattle.pq_gate.specs.declared.gate.Sum.{Sum};
-ghost use Rattle.pq_gate.specs.Circuit.{IsCircuit};
-ghost use Rattle.pq_gate.specs.Commuting.{Commutes};
+ghost use Rattle.pq_gate.specs.Circuit.{IsOnWires, IsCircuit};
+ghost use Rattle.pq_gate.specs.Commuting.{Touches, Along, Commutes};
+ghost use Rattle.pq_gate.specs.Kind.{kind_of, gate_on, number_of};
+ghost use Rattle.pq_gate.specs.Ports.{wires_of, first_wire, last_wire, IsAmong, Plays};
+ghost use Rattle.pq_gate.specs.Role.{role_number, axis_of, HaveOneAxis};
+ghost use Rattle.pq_gate.specs.declared.kind.Kind.{Kind};
+ghost use Rattle.pq_gate.specs.declared.role.Axis.{Axis};
+ghost use Rattle.pq_gate.specs.declared.role.Role.{Role};
 ghost use Rattle.pq_gate.specs.Inverse.{inverse_of};
 ghost use Rattle.pq_gate.specs.Phases.{TurnsBy};
 ghost use Rattle.pq_gate.specs.Matrix.{Entry, Same};
 ghost use Rattle.pq_gate.specs.Ring.{nought, one, plus, root, turned, rooted};
 
 use crate::gate::{Eighths, Gate};
+use crate::kind::KINDS;
+use crate::role::ROLES;
 
 /// To have the same matrix up to a phase is an equivalence of circuits, where the phase is turned
 /// back or added. Phases count modulo 8.
@@ -46,6 +54,33 @@ pub fn gates_have_inverses()
     ensures behind { (n : ℕ) (g : Gate) → IsCircuit n (g ∷ []) → Same n (g ∷ inverse_of g ∷ []) [] 0 }
     ensures before { (n : ℕ) (g : Gate) → IsCircuit n (g ∷ []) → Same n (inverse_of g ∷ g ∷ []) [] 0 }
     ensures twice { (g : Gate) → inverse_of (inverse_of g) ≡ g }
+{}
+
+/// A gate is the one of its kind on its wires, and uses these alone: its first and its last.
+pub fn a_gate_is_its_kind_on_its_wires()
+    ensures gate { (g : Gate) → gate_on (kind_of g) (first_wire g) (last_wire g) ≡ g }
+    ensures kind { (k : Kind) (first last : ℕ) → kind_of (gate_on k first last) ≡ k }
+    ensures wires { (g : Gate) (w : ℕ) → Touches g w ↔ IsAmong w (wires_of g) }
+    ensures ends { (g : Gate) (w : ℕ) → Touches g w ↔ ((w ≡ first_wire g) ⊎ (w ≡ last_wire g)) }
+{}
+
+/// Kinds and roles are told by their numbers.
+pub fn numbers_tell_kinds_and_roles()
+    ensures kinds { (k l : Kind) → number_of k ≡ number_of l → k ≡ l }
+    ensures kinds_below { (k : Kind) → number_of k < KINDS }
+    ensures roles { (r s : Role) → role_number r ≡ role_number s → r ≡ s }
+    ensures roles_below { (r : Role) → role_number r < ROLES }
+{}
+
+/// Two gates of a circuit commute exactly where on each wire that they share their roles act along
+/// one axis. Each gate acts along an axis on a wire exactly where it plays a role there that does.
+pub fn commuting_goes_by_roles()
+    ensures commuting { (n : ℕ) (g h : Gate) → IsOnWires n g → IsOnWires n h →
+        (Commutes g h ↔ ((w : ℕ) (r s : Role) → Plays g w r → Plays h w s → HaveOneAxis r s)) }
+    ensures along { (axis : Axis) (g : Gate) (w : ℕ) →
+        Along axis g w ↔ ((r : Role) × Plays g w r × (axis_of r ≡ Some axis)) }
+    ensures touching { (g : Gate) (w : ℕ) → Touches g w ↔ ((r : Role) × Plays g w r) }
+    ensures one { (n : ℕ) (g : Gate) → IsOnWires n g → (w : ℕ) (r s : Role) → Plays g w r → Plays g w s → r ≡ s }
 {}
 
 /// Whether two gates commute doesn't depend on their order.

@@ -9,7 +9,7 @@ use crate::gate::{Eighths, Sum};
 pub fn sum(first: Eighths, second: Eighths) -> Sum
     ensures { TurnsBy result ((eighths_of first + eighths_of second) % 8) }
 {
-    match (count(first) + count(second)) % 8 {
+    match (first.count() + second.count()) % 8 {
         0 => Sum::Nothing,
         1 => Sum::One(Eighths::T),
         2 => Sum::One(Eighths::S),
@@ -17,19 +17,6 @@ pub fn sum(first: Eighths, second: Eighths) -> Sum
         6 => Sum::One(Eighths::Sdg),
         7 => Sum::One(Eighths::Tdg),
         _ => Sum::Two,
-    }
-}
-
-// how many eighths of a whole turn they are
-fn count(eighths: Eighths) -> u8
-    ensures { result ≡ eighths_of eighths }
-{
-    match eighths {
-        Eighths::T => 1,
-        Eighths::S => 2,
-        Eighths::Z => 4,
-        Eighths::Sdg => 6,
-        Eighths::Tdg => 7,
     }
 }
 

@@ -1,36 +1,48 @@
 ghost use Rattle.std.specs.Prelude.{◌≡◌, ◌≤◌, ◌/◌, ◌%◌, IfOk};
+ghost use Rattle.pq_limits.specs.Limits.{AreQubits};
 ghost use Rattle.pq_gate.specs.declared.gate.Gate.TheVariants.{Phase};
 ghost use Rattle.pq_text.specs.WellFormed.{WellFormed};
 ghost use Rattle.pq_read.specs.Environment.{view};
-ghost use Rattle.pq_generate.specs.Generated.{cx_of, gate_of, generated, on_one_register};
+ghost use Rattle.pq_generate.specs.Generated.{cx_of, gate_of, gates_from, generated, on_one_register};
 
 use pq_gate::{Eighths, Gate, GateList};
+use pq_io::OutOfMemory;
+use pq_limits::MAX_GATES;
 use pq_read::{Name, Program, RegList, Register, TailList};
 use rand_core::{Rng, SeedableRng};
 use rand_xoshiro::SplitMix64;
-use std::alloc::{AllocError, Global};
+use std::alloc::Global;
 
 /// The program of a seed: so many gates on one quantum register `q`. There are 1 to 4,096 qubits, and at
 /// most 1,048,576 gates. Each gate comes of one word of SplitMix64, which is started with the seed as its
 /// state.
-pub fn generate(alloc: Global, seed: u64, qubits: u32, gates: u32) -> Result<Program, AllocError>
-    requires some { 1 ≤ qubits }
-    requires few_qubits { qubits ≤ 4096 }
-    requires few_gates { gates ≤ 1048576 }
+pub fn generate(alloc: Global, seed: u64, qubits: u32, gates: u32) -> Result<Program, OutOfMemory>
+    requires qubits { AreQubits qubits }
+    requires gates { gates ≤ MAX_GATES }
     ensures generated { IfOk result (λ program. view program ≡ generated seed qubits gates) }
     ensures well_formed { IfOk result (λ program. WellFormed (view program)) }
+{
+    let list = gates_of_seed(alloc, seed, qubits, gates)?;
+    let program = on_one_register(alloc, qubits, list)?;
+    Ok(program)
+}
+
+/// The gates of a seed, as many as asked for.
+#[tactic(auto, using(crate::proofs::Words::none_yet))]
+fn gates_of_seed(alloc: Global, seed: u64, qubits: u32, gates: u32) -> Result<GateList, OutOfMemory>
+    requires { AreQubits qubits }
+    ensures { IfOk result (λ list. list.items ≡ gates_from gates qubits seed) }
 {
     let mut words = SplitMix64::seed_from_u64(seed);
     let mut list = GateList::with_room(alloc, gates)?;
     for _number in 0..gates {
         list.push_kept(gate(words.next_u64(), qubits));
     }
-    let program = on_one_register(alloc, qubits, list)?;
-    Ok(program)
+    Ok(list)
 }
 
 /// The program of these gates on one quantum register `q`.
-fn on_one_register(alloc: Global, qubits: u32, gates: GateList) -> Result<Program, AllocError>
+fn on_one_register(alloc: Global, qubits: u32, gates: GateList) -> Result<Program, OutOfMemory>
     ensures { IfOk result (λ program. view program ≡ on_one_register qubits gates.items) }
 {
     let name = Name::of(alloc, "q")?;
@@ -46,8 +58,7 @@ fn on_one_register(alloc: Global, qubits: u32, gates: GateList) -> Result<Progra
 
 /// The gate of a word.
 fn gate(word: u64, qubits: u32) -> Gate
-    requires some { 1 ≤ qubits }
-    requires few { qubits ≤ 4096 }
+    requires { AreQubits qubits }
     ensures { result ≡ gate_of (word % 8) qubits (word / 8) }
 {
     let number = word / 8;
@@ -73,8 +84,7 @@ fn phase(eighths: Eighths, wire: u32) -> Gate
 
 /// A CX whose control and target are taken by the number; on one qubit an H.
 fn cx(number: u64, qubits: u32) -> Gate
-    requires some { 1 ≤ qubits }
-    requires few { qubits ≤ 4096 }
+    requires { AreQubits qubits }
     ensures { result ≡ cx_of qubits number }
 {
     if qubits == 1 {

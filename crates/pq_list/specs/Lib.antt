@@ -1,1 +1,2 @@
 pub mod Roomed
+pub mod Spliced

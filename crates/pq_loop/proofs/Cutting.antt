@@ -6,11 +6,11 @@ use Rattle.std.proofs.lemmas.Bool.{cases_lt}
 use Rattle.std.proofs.lemmas.List.{length_push, get_or_push, get_or_append_left, get_or-map}
 use Rattle.pq_gate.specs.declared.gate.Gate.{Gate}
 use Rattle.pq_array.specs.Cells.{live, rank}
-use Rattle.pq_finger.specs.Gaps.{GapCut}
+use Rattle.pq_gaps.specs.Gaps.{GapCut}
 use Rattle.pq_finger.specs.Ranks.{IsAtPlaces}
 use Rattle.pq_finger.specs.declared.cut.Cut.{Cut}
 use Rattle.pq_oracle.specs.Outcomes.{WorkedView}
-use Rattle.pq_loop.specs.Round.{cut_of}
+use Rattle.pq_method.specs.Round.{cut_of}
 use Rattle.pq_loop.specs.Segments.{stands, IsCutHere, work_at, works_of}
 
 -- the cut is what a round did at a finger of this index and gap, wherever the finger stands

@@ -9,14 +9,14 @@ use Rattle.pq_rules.specs.Row.{RowView}
 use Rattle.pq_array.specs.Cells.{live, rank, IsLive}
 use Rattle.pq_array.proofs.Ranks.{get_live}
 use Rattle.pq_array.proofs.Replacing.{RunAt}
-use Rattle.pq_finger.specs.Gaps.{segment_from, segment_to}
+use Rattle.pq_gaps.specs.Gaps.{segment_from, segment_to}
 use Rattle.pq_oracle.specs.Ora.{Ora}
 use Rattle.pq_oracle.specs.Outcomes.{WorkedView}
 use Rattle.pq_round.specs.Results.{gates_at, AreResults}
-use Rattle.pq_loop.specs.Round.{Work, IsWorkOf, run}
+use Rattle.pq_method.specs.Round.{Work, IsWorkOf, run}
 use Rattle.pq_loop.specs.declared.segments.Segments.{Segments}
 use Rattle.pq_loop.specs.Segments.{AreOfRun, AreSegments, works_of, works_in}
-use Rattle.pq_loop.proofs.Joining.{Fit, fit_from}
+use Rattle.pq_method.proofs.Joining.{Fit, fit_from}
 
 -- the places of a run are those of the live gates from its first number on
 pub run_at : (cells : List (Option Gate)) (from to : ℕ) (places : List ℕ) → AreOfRun cells from to places → RunAt cells from places

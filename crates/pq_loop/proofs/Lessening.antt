@@ -9,12 +9,12 @@ use Rattle.pq_rules.specs.Row.{RowView}
 use Rattle.pq_array.specs.Cells.{live, rank}
 use Rattle.pq_array.proofs.Ranks.{rank-le}
 use Rattle.pq_finger.specs.declared.cut.Cut.{Cut}
-use Rattle.pq_finger.specs.Gaps.{GapCut, lost_before}
+use Rattle.pq_gaps.specs.Gaps.{GapCut, lost_before}
 use Rattle.pq_finger.specs.Ranks.{IsAtPlaces, LosesGates}
-use Rattle.pq_loop.specs.Round.{Work, cut_of}
+use Rattle.pq_method.specs.Round.{Work, cut_of}
 use Rattle.pq_loop.specs.Segments.{stands}
-use Rattle.pq_loop.proofs.Joining.{Fit, work_up}
-use Rattle.pq_loop.proofs.Keeping.{lost_none, all_lost, none_lost}
+use Rattle.pq_method.proofs.Joining.{Fit, work_up}
+use Rattle.pq_method.proofs.Keeping.{lost_none, all_lost, none_lost}
 use Rattle.pq_loop.proofs.Placing.{IsApart, IsPut, apart_before}
 
 -- the gates that the work's segment lost

@@ -1,18 +1,10 @@
-pub mod OneRound
-pub mod OneOpt
-pub mod Falling
-pub mod Joining
 pub mod Standing
 pub mod Gathered
 pub mod Assembling
 pub mod Ranking
-pub mod Keeping
-pub mod Redexes
 pub mod Placing
 pub mod Lessening
 pub mod Turning
-pub mod Covering
-pub mod Ending
 pub mod Kept
 pub mod Nexts
 pub mod Growing
@@ -23,4 +15,3 @@ pub mod Cutting
 pub mod Numbering
 pub mod Moving
 pub mod Collecting
-pub mod Shortening

@@ -9,7 +9,7 @@ use Rattle.std.proofs.lemmas.List.Elements.{All-append, All-from_get_or}
 use Rattle.pq_gate.specs.declared.gate.Gate.{Gate}
 use Rattle.pq_array.specs.Cells.{live, rank}
 use Rattle.pq_array.proofs.Ranks.{rank-le}
-use Rattle.pq_finger.specs.Gaps.{segment_from, segment_to}
+use Rattle.pq_gaps.specs.Gaps.{segment_from, segment_to}
 use Rattle.pq_loop.specs.Segments.{AreOfRun, AreJobs}
 use Rattle.pq_loop.proofs.Growing.{increasing_append}
 

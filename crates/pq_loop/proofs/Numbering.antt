@@ -2,7 +2,7 @@
 use Rattle.std.proofs.Common.{◌≡◌, ℕ, ◌+◌, ◌*◌, ◌%◌, ◌≤◌, cond, List, [], ◌∷◌, length, drop, refl, sym, ap, ◌∙◌, arith}
 use Rattle.std.proofs.lemmas.List.{drop_all}
 use Rattle.pq_oracle.specs.Outcomes.{WorkedView}
-use Rattle.pq_loop.specs.Round.{improved_of, phases_of}
+use Rattle.pq_method.specs.Round.{improved_of, phases_of}
 use Rattle.pq_loop.specs.Segments.{works_of, AreNumbersOf}
 
 -- how many of the results are improved

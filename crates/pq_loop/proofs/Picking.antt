@@ -6,8 +6,8 @@ use Rattle.std.proofs.lemmas.List.Elements.{All-head, All-tail, All-map, All-con
 use Rattle.pq_gate.specs.declared.gate.Gate.{Gate}
 use Rattle.pq_array.specs.Cells.{live, IsLive, rank}
 use Rattle.pq_array.proofs.Ranks.{rank-le-live}
-use Rattle.pq_finger.specs.Gaps.{selected}
-use Rattle.pq_finger.proofs.Selections.{selected_contained}
+use Rattle.pq_gaps.specs.Gaps.{selected}
+use Rattle.pq_gaps.proofs.Selections.{selected_contained}
 use Rattle.pq_loop.specs.Segments.{AreJobs}
 
 -- selected ranks are gaps of the gates

@@ -8,14 +8,14 @@ use Rattle.pq_match.specs.Redex.{HasNoRedex}
 use Rattle.pq_array.specs.Cells.{live, rank, spliced, IsLive, Replaces}
 use Rattle.pq_array.proofs.Ranks.{live_or_not, rank-suc_live, rank-suc_dead}
 use Rattle.pq_array.proofs.Replacing.{RunAt}
-use Rattle.pq_finger.specs.Gaps.{lost_before}
+use Rattle.pq_gaps.specs.Gaps.{lost_before}
 use Rattle.pq_oracle.proofs.Answering.{improved}
-use Rattle.pq_loop.specs.Round.{Work, cut_of, joined, run}
+use Rattle.pq_method.specs.Round.{Work, cut_of, joined, run}
 use Rattle.pq_loop.specs.Segments.{AreOfRun}
-use Rattle.pq_loop.proofs.Joining.{Fit, work_up}
-use Rattle.pq_loop.proofs.Keeping.{Sizes, sizes, joined_as_before, lost_none, lost_fits, all_lost, none_lost}
+use Rattle.pq_method.proofs.Joining.{Fit, work_up}
+use Rattle.pq_method.proofs.Keeping.{Sizes, sizes, joined_as_before, lost_none, lost_fits, all_lost, none_lost}
 use Rattle.pq_loop.proofs.Ranking.{rank_before, rank_behind}
-use Rattle.pq_loop.proofs.Redexes.{none_of_none}
+use Rattle.pq_method.proofs.Redexes.{none_of_none}
 
 -- no improved segment of the work stands between these gaps
 abbrev pub IsApart : ℕ → ℕ → Work → Type 0

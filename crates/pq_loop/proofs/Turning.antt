@@ -12,12 +12,12 @@ use Rattle.pq_finger.specs.declared.cut.Cut.{Cut}
 use Rattle.pq_finger.specs.Ranks.{IsAtPlaces, LosesGates}
 use Rattle.pq_oracle.specs.Outcomes.{WorkedView}
 use Rattle.pq_round.specs.Results.{AreResults}
-use Rattle.pq_loop.specs.Round.{Work, cut_of}
+use Rattle.pq_method.specs.Round.{Work, cut_of}
 use Rattle.pq_loop.specs.declared.segments.Segments.{Segments}
 use Rattle.pq_loop.specs.Segments.{stands, work_at, works_of, works_in, AreOfRun, AreSegments}
-use Rattle.pq_loop.proofs.Joining.{Fit, work_up}
+use Rattle.pq_method.proofs.Joining.{Fit, work_up}
 use Rattle.pq_loop.proofs.Gathered.{works_count, results_count, works_apart}
-use Rattle.pq_loop.proofs.Keeping.{sizes, joined_short}
+use Rattle.pq_method.proofs.Keeping.{sizes, joined_short}
 use Rattle.pq_loop.proofs.Placing.{IsPut, put_none, put_same, put_better, run_still}
 use Rattle.pq_loop.proofs.Lessening.{loses_gates}
 

@@ -1,9 +1,11 @@
+pub use Rattle.pq_limits.specs.Limits
 pub use Rattle.pq_gate.specs.Circuit
 pub use Rattle.pq_gate.specs.Matrix
-pub use Rattle.pq_finger.specs.Gaps
+pub use Rattle.pq_gaps.specs.Gaps
 pub use Rattle.pq_match.specs.Redex
 pub use Rattle.pq_oracle.specs.Ora
-pub mod Round
-pub mod Opt
+pub use Rattle.pq_method.specs.Round
+pub use Rattle.pq_method.specs.Opt
 pub mod Loops
+pub mod Counted
 pub mod Segments

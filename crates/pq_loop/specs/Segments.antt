@@ -2,11 +2,11 @@
 use Rattle.std.specs.Prelude.{◌≡◌, ℕ, ◌+◌, ◌-◌, ◌*◌, ◌%◌, ◌<◌, ◌≤◌, Bool, ◌||◌, ◌==◌, Option, None, List, [], ◌∷◌, length, map, slice_index, slice_index_or, is_some, All, AllPairs, IsTrue}
 use Rattle.pq_gate.specs.declared.gate.Gate.{Gate}
 use Rattle.pq_array.specs.Cells.{live, rank, IsLive}
-use Rattle.pq_finger.specs.Gaps.{GapCut, segment_from, segment_to, selected, ascending}
+use Rattle.pq_gaps.specs.Gaps.{GapCut, segment_from, segment_to, selected, ascending}
 use Rattle.pq_oracle.specs.Outcomes.{WorkedView}
 use Rattle.pq_loop.specs.declared.segments.Segments.{Segments}
-use Rattle.pq_loop.specs.declared.one_round.Step.{Step}
-use Rattle.pq_loop.specs.Round.{State, Work, improved_of, phases_of}
+use Rattle.pq_method.specs.declared.step.Step.{Step}
+use Rattle.pq_method.specs.Round.{State, Work, improved_of, phases_of}
 
 -- the place is that of a live gate, or the end
 abbrev pub stands : List (Option Gate) → ℕ → Bool

@@ -1,8 +1,7 @@
-//! Rounds over a circuit: what a round is, the loop that makes rounds until there is no finger, that
-//! nothing is overlooked, and the bound on the oracle's calls.
+//! The loop that makes rounds over a circuit until there is no finger. What a round is, that nothing is
+//! overlooked, and the bound on the oracle's calls stand in `pq_method`.
 #![tactic(auto)]
 
-mod laws;
 mod looping;
 mod one_round;
 mod putting;
@@ -10,6 +9,5 @@ mod segments;
 #[cfg(test)]
 mod tests;
 
-pub use laws::{opt_has_one_result, opt_is_local, rounds_have_one_result, rounds_keep_cover};
 pub use looping::{Finished, Loop};
-pub use one_round::Step;
+pub use pq_method::Step;

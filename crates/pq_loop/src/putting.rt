@@ -5,7 +5,7 @@ ghost use Rattle.pq_finger.specs.Ranks.{IsAtPlaces, LosesGates};
 ghost use Rattle.pq_finger.specs.declared.cut.Cut.{Cut};
 ghost use Rattle.pq_match.specs.Row.{RowView, IsSound};
 ghost use Rattle.pq_round.specs.Results.{AreResults};
-ghost use Rattle.pq_loop.specs.Round.{joined, cut_of};
+ghost use Rattle.pq_method.specs.Round.{joined, cut_of};
 ghost use Rattle.pq_loop.specs.Segments.{stands, AreSegments, works_in};
 
 use crate::segments::Segments;

@@ -1,14 +1,17 @@
 -- Facts of which it is settled whether they hold: what a redex is made of.
-use Rattle.std.proofs.Common.{◌≡◌, ◌≢◌, ℕ, zero, suc, ◌+◌, ◌<◌, Bool, true, false, List, [], ◌∷◌, length, map, get_or, ◌⊎◌, inl, inr, refl, sym, subst, arith}
+use Rattle.std.proofs.Common.{◌≡◌, ◌≢◌, ℕ, zero, suc, ◌+◌, ◌<◌, Bool, true, false, List, [], ◌∷◌, length, map, get_or, ◌⊎◌, inl, inr, refl, sym, ap, subst, ◌∙◌, arith}
 use Rattle.std.specs.Prelude.{All, AllPairs, Option, Some, None}
 use Rattle.std.proofs.lemmas.Bool.{cases_eq, cases_lt}
 use Rattle.std.proofs.lemmas.List.{get_or_default}
 use Rattle.std.proofs.lemmas.List.Elements.{All-from_get_or}
 use Rattle.pq_gate.specs.declared.gate.Gate.{Gate}
-use Rattle.pq_gate.specs.declared.gate.Gate.TheVariants.{H, X, Phase, Cx}
-use Rattle.pq_gate.specs.declared.gate.Eighths.{Eighths}
-use Rattle.pq_gate.specs.declared.gate.Eighths.TheVariants.{T, S, Z, Sdg, Tdg}
-use Rattle.pq_gate.specs.Commuting.{Touches, AlongZ, AlongX, Agree, Commutes}
+use Rattle.pq_gate.specs.declared.role.Axis.{Axis}
+use Rattle.pq_gate.specs.declared.role.Axis.TheVariants as axes
+use Rattle.pq_gate.specs.Commuting.{Touches, Along, wires_along, Agree, Commutes}
+use Rattle.pq_gate.specs.Kind.{kind_of, gate_on, number_of}
+use Rattle.pq_gate.specs.Ports.{ports_of, wires_of, first_wire, last_wire, IsAmong}
+use Rattle.pq_gate.proofs.KindLaws.{kind_on_wires, same_kind}
+use Rattle.pq_gate.proofs.WireLaws.{lists_used, uses_listed, touched}
 use Rattle.pq_rules.specs.Row.{RowView, IsSound}
 use Rattle.pq_rules.specs.Renaming.{renamed}
 use Rattle.pq_rules.specs.Kinds.{row_numbered}
@@ -72,20 +75,13 @@ same_truth true true = inl refl
 same_truth false false = inl refl
 same_truth a b = inr (λ e. cc)
 
-same_eighths : (a b : Eighths) → Settled (a ≡ b)
-same_eighths T T = inl refl
-same_eighths S S = inl refl
-same_eighths Z Z = inl refl
-same_eighths Sdg Sdg = inl refl
-same_eighths Tdg Tdg = inl refl
-same_eighths a b = inr (λ e. cc)
-
 same_gate : (g h : Gate) → Settled (g ≡ h)
-same_gate (H v) (H w) = like (λ e. cc) (λ e. cc) (cases_eq v w)
-same_gate (X v) (X w) = like (λ e. cc) (λ e. cc) (cases_eq v w)
-same_gate (Phase a v) (Phase b w) = like {P = (a ≡ b) × (v ≡ w)} (λ e. cc) (λ e. ((cc), (cc))) (both (same_eighths a b) (cases_eq v w))
-same_gate (Cx b v) (Cx c w) = like {P = (b ≡ c) × (v ≡ w)} (λ e. cc) (λ e. ((cc), (cc))) (both (cases_eq b c) (cases_eq v w))
-same_gate g h = inr (λ e. cc)
+same_gate g h =
+    like {P = (number_of (kind_of g) ≡ number_of (kind_of h)) × ((first_wire g ≡ first_wire h) × (last_wire g ≡ last_wire h))}
+    (λ e. sym (kind_on_wires g) ∙ ((λ i. gate_on (same_kind (kind_of g) (kind_of h) e.0 i) (e.1.0 i) (e.1.1 i)) ∙ kind_on_wires h))
+    (λ e. (ap (λ (x : Gate). number_of (kind_of x)) e, (ap first_wire e, ap last_wire e)))
+    (both (cases_eq (number_of (kind_of g)) (number_of (kind_of h)))
+    (both (cases_eq (first_wire g) (first_wire h)) (cases_eq (last_wire g) (last_wire h))))
 
 same_gates : (c d : List Gate) → Settled (c ≡ d)
 same_gates [] [] = inl refl
@@ -94,39 +90,26 @@ same_gates c d = inr (λ e. cc)
 
 -- a number above each wire of the gate
 abbrev pub above_wires : Gate → ℕ
-above_wires (H w) = suc w
-above_wires (X w) = suc w
-above_wires (Phase k w) = suc w
-above_wires (Cx c t) = suc (c + t)
+above_wires g = suc (first_wire g + last_wire g)
 
 pub touched_below : (g : Gate) (w : ℕ) → Touches g w → w < above_wires g
-touched_below (H v) w here = omega arith
-touched_below (X v) w here = omega arith
-touched_below (Phase k v) w here = omega arith
-touched_below (Cx c t) w here = omega arith
+touched_below g w here = elim (touched g w here) [ inl first ↦ omega arith | inr last ↦ omega arith ]
+
+among : (w : ℕ) (wires : List ℕ) → Settled (IsAmong w wires)
+among w [] = inr (λ h. h)
+among w (v ∷ []) = cases_eq w v
+among w (v ∷ u ∷ wires) = either (cases_eq w v) (among w (u ∷ wires))
 
 touches : (g : Gate) (w : ℕ) → Settled (Touches g w)
-touches (H v) w = cases_eq w v
-touches (X v) w = cases_eq w v
-touches (Phase k v) w = cases_eq w v
-touches (Cx c t) w = either (cases_eq w c) (cases_eq w t)
+touches g w = like (uses_listed g w) (lists_used g w) (among w (wires_of g))
 
-along_z : (g : Gate) (w : ℕ) → Settled (AlongZ g w)
-along_z (H v) w = inr (λ h. h)
-along_z (X v) w = inr (λ h. h)
-along_z (Phase k v) w = cases_eq w v
-along_z (Cx c t) w = cases_eq w c
-
-along_x : (g : Gate) (w : ℕ) → Settled (AlongX g w)
-along_x (H v) w = inr (λ h. h)
-along_x (X v) w = cases_eq w v
-along_x (Phase k v) w = inr (λ h. h)
-along_x (Cx c t) w = cases_eq w t
+along : (axis : Axis) (g : Gate) (w : ℕ) → Settled (Along axis g w)
+along axis g w = among w (wires_along axis (ports_of g))
 
 agree : (g h : Gate) (w : ℕ) → Settled (Agree g h w)
 agree g h w =
     implied (touches g w)
-    (implied (touches h w) (either (both (along_z g w) (along_z h w)) (both (along_x g w) (along_x h w))))
+    (implied (touches h w) (either (both (along axes.Z g w) (along axes.Z h w)) (both (along axes.X g w) (along axes.X h w))))
 
 commute : (g h : Gate) → Settled (Commutes g h)
 commute g h =

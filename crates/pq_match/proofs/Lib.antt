@@ -1,6 +1,8 @@
+pub mod Leading
 pub mod Moving
 mod FirstOfOrder
 mod FirstOfSettled
+pub mod RenamedWires
 pub mod RewritingWires
 pub mod OneFirst
 pub mod SomeFirst
@@ -10,6 +12,8 @@ pub mod RewritingPlaces
 pub mod Growing
 pub mod GrowingWalk
 pub mod GrowingSkips
+pub mod CursorLaws
+pub mod Seeking
 pub mod SearchWires
 pub mod SearchTouches
 pub mod SearchNear
@@ -21,4 +25,6 @@ pub mod SearchRow
 pub mod SearchNumbers
 pub mod SearchFrom
 pub mod SearchWithin
+pub mod SeekRow
+pub mod Starting
 pub mod RewritingTests

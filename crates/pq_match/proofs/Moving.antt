@@ -7,9 +7,9 @@ use Rattle.std.proofs.lemmas.Bool.{eq-eqb, cases_eq}
 use Rattle.std.proofs.lemmas.Bool.Decides.{nat_tests}
 use Rattle.std.proofs.lemmas.List.{get_or-take, length-append, length-map, length-take, take-append-drop}
 use Rattle.pq_gate.specs.declared.gate.Gate.{Gate}
-use Rattle.pq_gate.specs.declared.gate.Gate.TheVariants.{H, X, Phase, Cx}
+use Rattle.pq_gate.specs.declared.gate.Gate.TheVariants.{H}
 use Rattle.pq_gate.specs.Circuit.{IsOnWires, IsCircuit}
-use Rattle.pq_gate.specs.Commuting.{Touches, Commutes}
+use Rattle.pq_gate.specs.Commuting.{Commutes}
 use Rattle.pq_gate.specs.Matrix.{Same}
 use Rattle.pq_gate.proofs.CircuitLaws.{IsCircuit-front, IsCircuit-back}
 use Rattle.pq_gate.proofs.MoveLaws.{same_moved_inside}
@@ -17,6 +17,7 @@ use Rattle.pq_gate.proofs.SameLaws.{same_reflexive, same_transitive, same_in_fro
 use Rattle.pq_rules.specs.Renaming.{IsRenaming, renamed}
 use Rattle.pq_rules.specs.Row.{RowView, Uses, IsSound}
 use Rattle.pq_rules.proofs.LiftLaws.{same_renamed}
+use Rattle.pq_match.proofs.RenamedWires.{touched_inside}
 use Rattle.pq_match.specs.Redex.{RedexView, IsRedex, IsMatch, AreWires, AreFree, gate_at, last_place, is_chosen}
 use Rattle.pq_match.specs.Rewrite.{unchosen, rewritten}
 
@@ -199,17 +200,6 @@ Rise-front whole (p ∷ places) lo rise =
     omega (arith, length-take count whole, last_below p places lo (length whole) rise) in
     subst (Rise lo (p ∷ places)) ends (Rise_to_last (p ∷ places) lo (length whole) rise)
 
--- a wire that a renamed gate uses
-touched_inside : (n : ℕ) (e : List ℕ) (g : Gate) (w : ℕ) → Touches g w → IsOnWires n (renamed e g) → get_or e w 0 < n
-touched_inside n e (H v) w touches on = subst (λ (u : ℕ). get_or e u 0 < n) (sym touches) on
-touched_inside n e (X v) w touches on = subst (λ (u : ℕ). get_or e u 0 < n) (sym touches) on
-touched_inside n e (Phase k v) w touches on = subst (λ (u : ℕ). get_or e u 0 < n) (sym touches) on
-touched_inside n e (Cx c t) w touches on =
-    ⊎_elim
-    (λ (is : w ≡ c). subst (λ (u : ℕ). get_or e u 0 < n) (sym is) on.0)
-    (λ (is : w ≡ t). subst (λ (u : ℕ). get_or e u 0 < n) (sym is) on.1)
-    touches
-
 on_wires_at : (n : ℕ) (e : List ℕ) (p : List Gate) (k : ℕ) (d : Gate) → IsCircuit n (map (renamed e) p) → k < length p →
     IsOnWires n (renamed e (get_or p k d))
 on_wires_at n e [] k d all below = absurd (omega arith)
@@ -282,7 +272,7 @@ rewriting_keeps rules gates redex is n sound circuit =
     let gathers : Same n front (u ++ p) 0 =
     gathered_pattern gates is.row.pattern redex.wires redex.places n is.matches is.free (IsCircuit-front n front back parts) in
     let renames : IsRenaming is.row.wires n redex.wires =
-    IsRenaming-used is.row.wires n redex.wires is.row.pattern is.wires sound.used (IsCircuit-back n u p gathers.right) in
+    IsRenaming-used is.row.wires n redex.wires is.row.pattern is.wires sound.wires.used (IsCircuit-back n u p gathers.right) in
     let same : Same n p q is.row.phase =
     same_renamed is.row.wires n is.row.phase redex.wires is.row.pattern is.row.replacement renames sound.same in
     subst (λ (c : List Gate). Same n c (u ++ (q ++ back)) is.row.phase) whole
@@ -314,4 +304,4 @@ rewriting_shortens rules gates redex is sound =
     let are : length (chosen redex.places 0 front) ≡ length is.row.pattern =
     ap (λ (c : List Gate). length c) (chosen_pattern gates is.row.pattern redex.wires redex.places is.matches) ∙
     length-map is.row.pattern (renamed redex.wires) in
-    omega (arith, length-append u (q ++ back), length-append q back, length-map is.row.replacement (renamed redex.wires), sound.shorter)
+    omega (arith, length-append u (q ++ back), length-append q back, length-map is.row.replacement (renamed redex.wires), sound.shortens.shorter)

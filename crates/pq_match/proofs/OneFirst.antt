@@ -1,16 +1,15 @@
 -- There is at most one first redex.
-use Rattle.std.proofs.Common.{◌≡◌, ℕ, zero, suc, ◌<◌, List, [], ◌∷◌, length, get_or, inl, inr, refl, ap, sym, subst, ◌∙◌, arith}
+use Rattle.std.proofs.Common.{◌≡◌, ℕ, zero, suc, ◌<◌, List, [], ◌∷◌, length, inl, inr, refl, ap, sym, subst, ◌∙◌, arith}
 use Rattle.std.specs.Prelude.{All, Option, Some, None}
 use Rattle.std.proofs.lemmas.List.{ext_get_or}
 use Rattle.std.proofs.lemmas.Option.{slice_get_within, get_or_from_slice_get}
 use Rattle.pq_gate.specs.declared.gate.Gate.{Gate}
-use Rattle.pq_gate.specs.declared.gate.Gate.TheVariants.{H, X, Phase, Cx}
-use Rattle.pq_gate.specs.Commuting.{Touches}
 use Rattle.pq_rules.specs.Row.{RowView, Uses, IsSound}
 use Rattle.pq_rules.specs.Renaming.{renamed}
 use Rattle.pq_rules.specs.Kinds.{row_numbered}
 use Rattle.pq_match.specs.Redex.{RedexView, IsRedex, IsMatch, IsWithin, HasNoRedex, last_place}
 use Rattle.pq_match.specs.First.{Precedes, key, IsFirst, HasNoneWithin, FirstWithin}
+use Rattle.pq_match.proofs.RenamedWires.{led_once}
 use Rattle.pq_match.proofs.RewritingWires.{places_long, chosen_at}
 use Rattle.pq_match.proofs.FirstOfOrder.{Comes, comes_cases, precedes_from_comes}
 
@@ -24,20 +23,13 @@ pub number_small : (rules : List RowView) (number : ℕ) (row : RowView) → row
 number_small rules zero row is = omega arith
 number_small rules (suc k) row is = omega (arith, slice_get_within rules k row is)
 
--- a wire of a gate is led to one wire, where the renamed gate is one
-led_once : (e f : List ℕ) (g : Gate) (w : ℕ) → Touches g w → renamed e g ≡ renamed f g → get_or e w 0 ≡ get_or f w 0
-led_once e f (H v) w here same = cc
-led_once e f (X v) w here same = cc
-led_once e f (Phase k v) w here same = cc
-led_once e f (Cx c t) w here same = elim here [ inl is ↦ cc | inr is ↦ cc ]
-
 -- so the places of a redex choose its wires
 wires_once : (gates : List Gate) (row : RowView) (e f places : List ℕ) → IsSound row → length e ≡ row.wires → length f ≡ row.wires →
     IsMatch gates row.pattern e places → IsMatch gates row.pattern f places → e ≡ f
 wires_once gates row e f places sound e_long f_long left right =
     ext_get_or 0 e f (e_long ∙ sym f_long)
     (λ w inside.
-    let uses : Uses row.pattern w = sound.used w (omega (arith, e_long)) in
+    let uses : Uses row.pattern w = sound.wires.used w (omega (arith, e_long)) in
     led_once e f uses.1 w uses.4 (subst (λ (g : Gate). renamed e g ≡ renamed f g) uses.3
     (sym (chosen_at gates row.pattern e places left.chosen uses.0 uses.1 uses.2) ∙ chosen_at gates row.pattern f places right.chosen uses.0 uses.1 uses.2)))
 
@@ -80,21 +72,21 @@ pub one_first : (rules : List RowView) (gates : List Gate) (span : ℕ) (x y : R
     IsFirst rules gates span x → IsFirst rules gates span y → x ≡ y
 one_first rules gates span x y sound left right =
     elim (comes_cases (key x) (key y)) [
-      | inl before ↦ absurd (right.first x left.is left.within (key_precedes rules gates x y left.is right.is before))
+      | inl before ↦ absurd (right.first x left.is left.among (key_precedes rules gates x y left.is right.is before))
       | inr other ↦ elim other [
         | inl same ↦ one_redex rules gates x y left.is right.is sound same
-        | inr after ↦ absurd (left.first y right.is right.within (key_precedes rules gates y x right.is left.is after))
+        | inr after ↦ absurd (left.first y right.is right.among (key_precedes rules gates y x right.is left.is after))
       ]
     ]
 
 pub one_found : (rules : List RowView) (gates : List Gate) (span : ℕ) (found other : Option RedexView) → All IsSound rules →
     FirstWithin rules gates span found → FirstWithin rules gates span other → found ≡ other
 one_found rules gates span None None sound left right = refl
-one_found rules gates span None (Some y) sound left right = absurd (left y right.is right.within)
-one_found rules gates span (Some x) None sound left right = absurd (right x left.is left.within)
+one_found rules gates span None (Some y) sound left right = absurd (left.none y right.is right.among)
+one_found rules gates span (Some x) None sound left right = absurd (right.none x left.is left.among)
 one_found rules gates span (Some x) (Some y) sound left right = ap Some (one_first rules gates span x y sound left right)
 
-last_inside : (n : ℕ) (places : List ℕ) → All (λ i. i < n) places → 0 < length places → last_place places < n
+pub last_inside : (n : ℕ) (places : List ℕ) → All (λ i. i < n) places → 0 < length places → last_place places < n
 last_inside n [] inside some = absurd (omega arith)
 last_inside n (p ∷ []) inside some = inside 0 0 (omega arith)
 last_inside n (p ∷ q ∷ places) inside some =
@@ -104,7 +96,7 @@ last_inside n (p ∷ q ∷ places) inside some =
 pub some_place : (rules : List RowView) (gates : List Gate) (redex : RedexView) → All IsSound rules → IsRedex rules gates redex →
     0 < length redex.places
 some_place rules gates redex sound is =
-    let shorter : length is.row.replacement < length is.row.pattern = (row_sound rules redex.row is.row is.numbered sound).shorter in
+    let shorter : length is.row.replacement < length is.row.pattern = (row_sound rules redex.row is.row is.numbered sound).shortens.shorter in
     omega (arith, shorter, places_long gates is.row.pattern redex.wires redex.places is.matches.chosen)
 
 -- each redex lies within the length of the list
@@ -113,4 +105,4 @@ redex_within_all rules gates redex is = omega (arith, last_inside (length gates)
 
 -- a list without a redex within its length has none
 pub first_of_all : (rules : List RowView) (gates : List Gate) → HasNoneWithin rules gates (length gates) → HasNoRedex rules gates
-first_of_all rules gates none redex is = none redex is (redex_within_all rules gates redex is)
+first_of_all rules gates none redex is = none.none redex is (redex_within_all rules gates redex is)

@@ -22,7 +22,7 @@ replacement_alike : (row : RowView) (read wires : List ℕ) → IsSound row
     → ((w : ℕ) → Uses row.pattern w → get_or read w 0 ≡ get_or wires w 0)
     → map (renamed read) row.replacement ≡ map (renamed wires) row.replacement
 replacement_alike row read wires sound right =
-    all_renamed_same row.wires read wires row.replacement sound.same.right (λ w inside. right w (sound.used w inside))
+    all_renamed_same row.wires read wires row.replacement sound.same.right (λ w inside. right w (sound.wires.used w inside))
 
 -- the gates were closed up before `end`, the replacement put behind them, and the rest moved down behind it
 pub rewritten_is : (row : RowView) (old closed filled moved : List Gate) (places wires read : List ℕ) (kept end : ℕ) → IsSound row
@@ -35,7 +35,7 @@ pub rewritten_is : (row : RowView) (old closed filled moved : List Gate) (places
     → moved ≡ copy_within filled end (length filled) (kept + length row.replacement)
     → take ((kept + length row.replacement) + (length filled - end)) moved ≡ rewritten old row.replacement (record { row = 0; wires = wires; places = places })
 rewritten_is row old closed filled moved places wires read kept end sound is right last inside long closed_is rest count front behind moved_is =
-    let shorter : length row.replacement < length row.pattern = sound.shorter in
+    let shorter : length row.replacement < length row.pattern = sound.shortens.shorter in
     let as_many : length places ≡ length row.pattern = places_long old row.pattern wires places is.chosen in
     let filling = kept + length row.replacement in
     let ends : drop end filled ≡ drop end old = alike_later filled closed filling end (omega arith) behind ∙ rest in

@@ -5,21 +5,21 @@ use Rattle.std.proofs.lemmas.List.{length-map, get_or-map, get_or_default}
 use Rattle.pq_gate.specs.Circuit.{IsOnWires, IsCircuit}
 use Rattle.pq_gate.specs.Commuting.{Touches}
 use Rattle.pq_gate.specs.declared.gate.Gate.{Gate}
-use Rattle.pq_gate.specs.declared.gate.Gate.TheVariants.{H, X, Phase, Cx}
+use Rattle.pq_gate.specs.Kind.{kind_of, gate_on}
+use Rattle.pq_gate.specs.Ports.{first_wire, last_wire}
+use Rattle.pq_gate.proofs.WireLaws.{touches_first, touches_last}
 use Rattle.pq_rules.specs.Renaming.{renamed}
 use Rattle.pq_rules.specs.Row.{Uses}
 use Rattle.pq_match.specs.Redex.{gate_at}
+use Rattle.pq_match.proofs.RenamedWires.{touched_below_count}
 
 -- two renamings that agree on the wires of a gate rename it alike
 renamed_same : (n : ℕ) (xs ys : List ℕ) (gate : Gate) → IsOnWires n gate → ((w : ℕ) → w < n → get_or xs w 0 ≡ get_or ys w 0)
     → renamed xs gate ≡ renamed ys gate
-renamed_same n xs ys (H wire) is alike = ap H (alike wire is)
-renamed_same n xs ys (X wire) is alike = ap X (alike wire is)
-renamed_same n xs ys (Phase eighths wire) is alike = ap (Phase eighths) (alike wire is)
-renamed_same n xs ys (Cx control target) is alike =
-    let c : get_or xs control 0 ≡ get_or ys control 0 = alike control is.0 in
-    let t : get_or xs target 0 ≡ get_or ys target 0 = alike target is.1 in
-    cc
+renamed_same n xs ys gate is alike =
+    let first = alike (first_wire gate) (touched_below_count n gate (first_wire gate) is (touches_first gate)) in
+    let last = alike (last_wire gate) (touched_below_count n gate (last_wire gate) is (touches_last gate)) in
+    λ i. gate_on (kind_of gate) (first i) (last i)
 
 -- two renamings that agree on the wires of a circuit rename it alike
 pub all_renamed_same : (n : ℕ) (xs ys : List ℕ) (gates : List Gate) → IsCircuit n gates

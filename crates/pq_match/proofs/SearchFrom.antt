@@ -2,13 +2,14 @@ use Rattle.std.proofs.Common.{◌≡◌, ℕ, zero, suc, ◌+◌, ◌<◌, ◌�
 use Rattle.std.proofs.lemmas.Bool.{cases_order}
 use Rattle.pq_gate.specs.declared.gate.Gate.{Gate}
 use Rattle.pq_gate.specs.declared.gate.Gate.TheVariants.{H}
-use Rattle.pq_rules.specs.Kinds.{kind_of, numbers_starting, row_numbered, begins}
+use Rattle.pq_gate.specs.Kind.{kind_of, number_of}
+use Rattle.pq_rules.specs.Kinds.{numbers_starting, row_numbered, begins}
 use Rattle.pq_rules.specs.Row.{RowView}
 use Rattle.pq_match.specs.declared.redex.Redex.{Redex}
 use Rattle.pq_match.specs.Redex.{RedexView, IsRedex, gate_at}
-use Rattle.pq_match.specs.First.{Precedes, key}
-use Rattle.pq_match.specs.Found.{seen}
-use Rattle.pq_match.specs.Search.{IsFirstAmong, HasNoneAmong, IsFrom, IsOfRow}
+use Rattle.pq_match.specs.First.{Precedes, key, HasNoneAmong}
+use Rattle.pq_match.specs.Found.{seen, IsFoundAmong}
+use Rattle.pq_match.specs.Search.{IsFrom, IsOfRow}
 use Rattle.pq_match.proofs.SearchGates.{kind-renamed}
 use Rattle.pq_match.proofs.RewritingWires.{places_long, chosen_at}
 use Rattle.pq_match.proofs.SearchNumbers.{begins_by_kind, numbers_rise, number_stands}
@@ -16,33 +17,33 @@ use Rattle.pq_match.proofs.SearchPlaces.{StandsAt}
 
 -- none of the rows with the first of these numbers has a redex here
 pub record AreTried (rules : List RowView) (gates : List Gate) (start end : ℕ) (numbers : List ℕ) (index : ℕ) : Type 0 where
-  pub are : numbers ≡ numbers_starting (kind_of (gate_at gates start)) 1 rules
+  pub are : numbers ≡ numbers_starting (number_of (kind_of (gate_at gates start))) 1 rules
   pub none : (k : ℕ) → k < index → (other : RedexView) → IsRedex rules gates other → ¬ IsOfRow (get_or numbers k 0) start end other
 
 module _ (rules : List RowView) (gates : List Gate) (start end : ℕ) where
-  stands_by_row : (other : RedexView) (number : ℕ) (row : RowView) → row_numbered rules number ≡ Some row → begins (kind_of (gate_at gates start)) row.pattern ≡ true →
-      StandsAt (numbers_starting (kind_of (gate_at gates start)) 1 rules) number
+  stands_by_row : (other : RedexView) (number : ℕ) (row : RowView) → row_numbered rules number ≡ Some row → begins (number_of (kind_of (gate_at gates start))) row.pattern ≡ true →
+      StandsAt (numbers_starting (number_of (kind_of (gate_at gates start))) 1 rules) number
   stands_by_row other zero row numbered begin = absurd (cc)
-  stands_by_row other (suc k) row numbered begin = number_stands (kind_of (gate_at gates start)) 1 rules k (suc k) row numbered begin (omega arith)
+  stands_by_row other (suc k) row numbered begin = number_stands (number_of (kind_of (gate_at gates start))) 1 rules k (suc k) row numbered begin (omega arith)
 
   -- the row of a redex that begins here is among those whose first gate is of this gate's kind
-  number_of : (other : RedexView) → IsRedex rules gates other → get_or other.places 0 0 ≡ start → StandsAt (numbers_starting (kind_of (gate_at gates start)) 1 rules) other.row
-  number_of other is at =
+  pub row_stands : (other : RedexView) → IsRedex rules gates other → get_or other.places 0 0 ≡ start → StandsAt (numbers_starting (number_of (kind_of (gate_at gates start))) 1 rules) other.row
+  row_stands other is at =
       let whole : length other.places ≡ length is.row.pattern = places_long gates is.row.pattern other.wires other.places is.matches.chosen in
       let places_some : 0 < length other.places = is.some in
       let some : 0 < length is.row.pattern = omega arith in
       stands_by_row other other.row is.row is.numbered
-      (begins_by_kind (kind_of (gate_at gates start)) is.row.pattern some
-      (sym (kind-renamed other.wires (gate_at is.row.pattern 0)) ∙
+      (begins_by_kind (number_of (kind_of (gate_at gates start))) is.row.pattern some
+      (ap number_of (sym (kind-renamed other.wires (gate_at is.row.pattern 0)) ∙
       (ap kind_of (sym (chosen_at gates is.row.pattern other.wires other.places is.matches.chosen 0 (H 0) some)) ∙
-      ap (λ (p : ℕ). kind_of (gate_at gates p)) at)))
+      ap (λ (p : ℕ). kind_of (gate_at gates p)) at))))
 
 -- a redex that begins here is of a row with one of the numbers
 stands_in : {rules : List RowView} {gates : List Gate} {start end : ℕ} {numbers : List ℕ} {index : ℕ} → AreTried rules gates start end numbers index →
     (other : RedexView) → IsRedex rules gates other → get_or other.places 0 0 ≡ start → StandsAt numbers other.row
-stands_in {rules} {gates} {start} {end} tried other is at = subst (λ (ns : List ℕ). StandsAt ns other.row) (sym tried.are) (number_of rules gates start end other is at)
+stands_in {rules} {gates} {start} {end} tried other is at = subst (λ (ns : List ℕ). StandsAt ns other.row) (sym tried.are) (row_stands rules gates start end other is at)
 
-pub none_tried : (rules : List RowView) (gates : List Gate) (start end : ℕ) (numbers : List ℕ) → numbers ≡ numbers_starting (kind_of (gate_at gates start)) 1 rules →
+pub none_tried : (rules : List RowView) (gates : List Gate) (start end : ℕ) (numbers : List ℕ) → numbers ≡ numbers_starting (number_of (kind_of (gate_at gates start))) 1 rules →
     AreTried rules gates start end numbers 0
 none_tried rules gates start end numbers are = record { are = are; none = λ k below. absurd (omega arith) }
 
@@ -65,33 +66,35 @@ tried_all {rules} {gates} {start} {end} {numbers} {index} tried all = record {
 }
 
 pub tried_first : {rules : List RowView} {gates : List Gate} {start end : ℕ} {numbers : List ℕ} {index : ℕ} {redex : Redex} → AreTried rules gates start end numbers index →
-    index < length numbers → IsFirstAmong (IsOfRow (get_or numbers index 0) start end) rules gates redex → IsFirstAmong (IsFrom start end) rules gates redex
+    index < length numbers → IsFoundAmong (IsOfRow (get_or numbers index 0) start end) rules gates redex → IsFoundAmong (IsFrom start end) rules gates redex
 tried_first {rules} {gates} {start} {end} {numbers} {index} {redex} tried inside first = record {
   wires = first.wires;
-  is = first.is;
-  among = (first.among.1, first.among.2);
-  first = λ other is from before. (let stands = stands_in tried other is from.0 in by other is from before stands (cases_order stands.at index));
+  first = record {
+    is = first.first.is;
+    among = (first.first.among.1, first.first.among.2);
+    first = λ other is from before. (let stands = stands_in tried other is from.0 in by other is from before stands (cases_order stands.at index));
+  };
   padded = first.padded;
 }
   where
     rise : (i j : ℕ) → i < j → j < length numbers → get_or numbers i 0 < get_or numbers j 0
     rise i j less below =
         subst (λ (ns : List ℕ). (i j : ℕ) → i < j → j < length ns → get_or ns i 0 < get_or ns j 0) (sym tried.are)
-        (λ i j less below. numbers_rise (kind_of (gate_at gates start)) 1 rules i j 0 less below) i j less below
+        (λ i j less below. numbers_rise (number_of (kind_of (gate_at gates start))) 1 rules i j 0 less below) i j less below
 
     later : (other : RedexView) → IsFrom start end other → (get_or numbers index 0 < other.row) →
         Precedes (key other) (key (seen redex first.wires)) → ⊥
     later other from more (inl less) =
-        let a : get_or (seen redex first.wires).places 0 0 ≡ start = first.among.1 in
+        let a : get_or (seen redex first.wires).places 0 0 ≡ start = first.first.among.1 in
         let b : get_or other.places 0 0 ≡ start = from.0 in
         omega arith
-    later other from more (inr (same, inl less)) = (let r : redex.row ≡ get_or numbers index 0 = first.among.0 in omega arith)
-    later other from more (inr (same, inr (row_same, before))) = (let r : redex.row ≡ get_or numbers index 0 = first.among.0 in omega arith)
+    later other from more (inr (same, inl less)) = (let r : redex.row ≡ get_or numbers index 0 = first.first.among.0 in omega arith)
+    later other from more (inr (same, inr (row_same, before))) = (let r : redex.row ≡ get_or numbers index 0 = first.first.among.0 in omega arith)
 
     by : (other : RedexView) → IsRedex rules gates other → IsFrom start end other → Precedes (key other) (key (seen redex first.wires)) →
         (stands : StandsAt numbers other.row) → (stands.at ≡ index) ⊎ ((stands.at < index) ⊎ (index < stands.at)) → ⊥
     by other is from before stands (inl same) =
-        first.first other is (sym stands.is ∙ ap (λ (k : ℕ). get_or numbers k 0) same, from.0, from.1) before
+        first.first.first other is (sym stands.is ∙ ap (λ (k : ℕ). get_or numbers k 0) same, from.0, from.1) before
     by other is from before stands (inr (inl less)) = tried.none stands.at less other is (sym stands.is, from.0, from.1)
     by other is from before stands (inr (inr more)) =
         later other from

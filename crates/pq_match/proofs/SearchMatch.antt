@@ -6,7 +6,7 @@ use Rattle.pq_gate.specs.declared.gate.Gate.{Gate}
 use Rattle.pq_gate.specs.declared.gate.Gate.TheVariants.{H}
 use Rattle.pq_gate.specs.Circuit.{IsCircuit}
 use Rattle.pq_gate.specs.Commuting.{Commutes}
-use Rattle.pq_rules.specs.Kinds.{kind_of}
+use Rattle.pq_gate.specs.Kind.{kind_of}
 use Rattle.pq_rules.specs.Renaming.{renamed}
 use Rattle.pq_rules.specs.Row.{Uses}
 use Rattle.pq_match.specs.Redex.{gate_at, last_place, AreWires, IsMatch, AreFree}

@@ -1,22 +1,23 @@
 -- The kinds of the gates that share a wire with the first gate of a match, and that it may be moved up to.
-use Rattle.std.proofs.Common.{◌≡◌, ◌≢◌, ℕ, zero, suc, ◌+◌, ◌<◌, ◌≤◌, Bool, true, false, List, [], ◌∷◌, length, get_or, set, inl, inr, ◌⊎◌, sym, ap, subst, ◌∙◌, arith}
+use Rattle.std.proofs.Common.{◌≡◌, ◌≢◌, ℕ, zero, suc, ◌+◌, ◌<◌, ◌≤◌, Bool, true, false, IsTrue, ◌↔◌, List, [], ◌∷◌, length, get_or, set, inl, inr, ◌⊎◌, sym, ap, subst, ◌∙◌, arith}
 use Rattle.std.proofs.lemmas.Bool.{cases_order}
 use Rattle.std.proofs.lemmas.Grind.{get_or-set_at}
 use Rattle.std.proofs.lemmas.List.{length-set, get_or-set_other}
 use Rattle.pq_gate.specs.declared.gate.Gate.{Gate}
 use Rattle.pq_gate.specs.Commuting.{Touches, Commutes}
-use Rattle.pq_rules.specs.Kinds.{kind_of}
+use Rattle.pq_gate.specs.declared.kind.TheConstants.{KINDS}
+use Rattle.pq_gate.specs.Kind.{kind_of, number_of}
 use Rattle.pq_match.specs.Redex.{gate_at}
 use Rattle.pq_match.specs.Search.{AreApart, AreAlike, IsPassed, IsNext, HasKindsNear, IsFull, Begins, HasNoFull}
 use Rattle.pq_match.proofs.SearchTouches.{share_alike, share_back}
 
 -- the gates behind the start and before the place that share a wire with the gate at the start are of these kinds
 pub record IsNear (gates : List Gate) (start place : ℕ) (near : List Bool) : Type 0 where
-  pub whole : length near ≡ 10
+  pub whole : length near ≡ KINDS
   pub seen : (p w : ℕ) → start < p → p < place → Touches (gate_at gates start) w → Touches (gate_at gates p) w →
-      get_or near (kind_of (gate_at gates p)) false ≡ true
+      get_or near (number_of (kind_of (gate_at gates p))) false ≡ true
 
-pub near_begins : (gates : List Gate) (start : ℕ) (near : List Bool) → length near ≡ 10 → IsNear gates start (start + 1) near
+pub near_begins : (gates : List Gate) (start : ℕ) (near : List Bool) → length near ≡ KINDS → IsNear gates start (start + 1) near
 near_begins gates start near whole = record { whole = whole; seen = λ p w more less. absurd (omega arith) }
 
 -- a gate that shares no wire with it,
@@ -25,31 +26,31 @@ pub near_passes : {gates : List Gate} {start place : ℕ} {near : List Bool} →
 near_passes {gates} {start} {place} {near} so_far apart = record { whole = so_far.whole; seen = λ p w more less. by p w more less (cases_order p place) }
   where
     by : (p w : ℕ) → start < p → p < place + 1 → (p ≡ place) ⊎ ((p < place) ⊎ (place < p)) → Touches (gate_at gates start) w → Touches (gate_at gates p) w →
-        get_or near (kind_of (gate_at gates p)) false ≡ true
+        get_or near (number_of (kind_of (gate_at gates p))) false ≡ true
     by p w more less (inl same) uses_first uses = absurd (apart w uses_first (subst (λ (q : ℕ). Touches (gate_at gates q) w) same uses))
     by p w more less (inr (inl lower)) uses_first uses = so_far.seen p w more lower uses_first uses
     by p w more less (inr (inr higher)) uses_first uses = absurd (omega arith)
 
 -- or one whose kind is put in
 pub near_grows : {gates : List Gate} {start place : ℕ} {near : List Bool} {kind : ℕ} → IsNear gates start place near →
-    kind ≡ kind_of (gate_at gates place) → kind < 10 → IsNear gates start (place + 1) (set near kind true)
+    kind ≡ number_of (kind_of (gate_at gates place)) → kind < KINDS → IsNear gates start (place + 1) (set near kind true)
 near_grows {gates} {start} {place} {near} {kind} so_far is few = record {
   whole = length-set near kind true ∙ so_far.whole;
   seen = λ p w more less. by p w more less (cases_order p place);
 }
   where
     put : (k : ℕ) → (k ≡ kind) ⊎ ((k < kind) ⊎ (kind < k)) → ((k ≢ kind) → get_or near k false ≡ true) → get_or (set near kind true) k false ≡ true
-    put k (inl same) old = get_or-set_at near kind k true false same (let e : length near ≡ 10 = so_far.whole in omega arith)
+    put k (inl same) old = get_or-set_at near kind k true false same (let e : length near ≡ KINDS = so_far.whole in omega arith)
     put k (inr (inl less)) old = get_or-set_other near kind k true false (omega arith) ∙ old (omega arith)
     put k (inr (inr more)) old = get_or-set_other near kind k true false (omega arith) ∙ old (omega arith)
 
     by : (p w : ℕ) → start < p → p < place + 1 → (p ≡ place) ⊎ ((p < place) ⊎ (place < p)) → Touches (gate_at gates start) w → Touches (gate_at gates p) w →
-        get_or (set near kind true) (kind_of (gate_at gates p)) false ≡ true
+        get_or (set near kind true) (number_of (kind_of (gate_at gates p))) false ≡ true
     by p w more less (inl same) uses_first uses =
-        let at : kind_of (gate_at gates p) ≡ kind = ap (λ (q : ℕ). kind_of (gate_at gates q)) same ∙ sym is in
-        put (kind_of (gate_at gates p)) (cases_order (kind_of (gate_at gates p)) kind) (λ other. absurd (other at))
+        let at : number_of (kind_of (gate_at gates p)) ≡ kind = ap (λ (q : ℕ). number_of (kind_of (gate_at gates q))) same ∙ sym is in
+        put (number_of (kind_of (gate_at gates p))) (cases_order (number_of (kind_of (gate_at gates p))) kind) (λ other. absurd (other at))
     by p w more less (inr (inl lower)) uses_first uses =
-        put (kind_of (gate_at gates p)) (cases_order (kind_of (gate_at gates p)) kind) (λ other. so_far.seen p w more lower uses_first uses)
+        put (number_of (kind_of (gate_at gates p))) (cases_order (number_of (kind_of (gate_at gates p))) kind) (λ other. so_far.seen p w more lower uses_first uses)
     by p w more less (inr (inr higher)) uses_first uses = absurd (omega arith)
 
 -- Up to the first gate that doesn't commute with the gate at the start,
@@ -60,12 +61,19 @@ near_stops {gates} {start} {place} {end} {near} so_far behind stuck p w next ins
     above : start < p
     above = next.above 0 (omega arith)
 
-    by : (p ≡ place) ⊎ ((p < place) ⊎ (place < p)) → get_or near (kind_of (gate_at gates p)) false ≡ true
+    by : (p ≡ place) ⊎ ((p < place) ⊎ (place < p)) → get_or near (number_of (kind_of (gate_at gates p))) false ≡ true
     by (inl same) = so_far.seen p w above (omega arith) uses_first uses
     by (inr (inl less)) = so_far.seen p w above (omega arith) uses_first uses
     by (inr (inr more)) =
         absurd (stuck (next.clear 0 place (omega arith) (λ s below same. (let e : s ≡ 0 = omega arith in
         let f : start ≡ place = subst (λ (k : ℕ). get_or (start ∷ []) k 0 ≡ place) e same in omega arith)) behind more))
+
+-- whose kind is the last that is put in,
+pub near_stops_at : {gates : List Gate} {start place end : ℕ} {near : List Bool} {kind : ℕ} {commuting : Bool} → IsNear gates start place near →
+    kind ≡ number_of (kind_of (gate_at gates place)) → kind < KINDS → start < place → IsTrue commuting ↔ Commutes (gate_at gates start) (gate_at gates place) → commuting ≡ false →
+    HasKindsNear gates start end (set near kind true)
+near_stops_at so_far is few behind commuting stuck =
+    near_stops (near_grows so_far is few) behind (λ alike. absurd (let yes = commuting.1 alike in cc))
 
 -- or up to the end, these are all kinds.
 pub near_ends : {gates : List Gate} {start place end : ℕ} {near : List Bool} → IsNear gates start place near → end ≤ place → HasKindsNear gates start end near
@@ -102,7 +110,7 @@ module _ (gates pattern : List Gate) (start end second : ℕ) (near : List Bool)
     (behind : 0 < second) (below : second < length pattern)
     (apart : (number : ℕ) → 0 < number → number < second → AreApart (gate_at pattern 0) (gate_at pattern number))
     (share : ¬ AreApart (gate_at pattern 0) (gate_at pattern second))
-    (unseen : get_or near (kind_of (gate_at pattern second)) false ≡ false) where
+    (unseen : get_or near (number_of (kind_of (gate_at pattern second))) false ≡ false) where
   module _ (other : List ℕ) (full : IsFull gates pattern end other) (begins : Begins front 1 other) where
     at_first : get_or other 0 0 ≡ start
     at_first = begins 0 (omega arith) ∙ at_start
@@ -158,15 +166,15 @@ module _ (gates pattern : List Gate) (start end second : ℕ) (near : List Bool)
         clear zero q s_below more less = commuting q more less (stands_or_passed other (length pattern) q)
         clear (suc s) q s_below more less = absurd (omega arith)
 
-    kind_is : get_or near (kind_of (gate_at gates (get_or other second 0))) false ≡ false
-    kind_is = subst (λ (k : ℕ). get_or near k false ≡ false) (sym (full.fitting second below).kind) unseen
+    kind_is : get_or near (number_of (kind_of (gate_at gates (get_or other second 0)))) false ≡ false
+    kind_is = subst (λ (k : ℕ). get_or near k false ≡ false) (ap number_of (sym (full.fitting second below).kind)) unseen
 
     contradicts : ⊥
     contradicts = share (λ w uses_first uses. (
         let shared = share_alike (gate_at pattern 0) (gate_at pattern second) (gate_at gates start) (gate_at gates (get_or other second 0)) (alike second below) w uses_first uses in
-        let yes : get_or near (kind_of (gate_at gates (get_or other second 0))) false ≡ true =
+        let yes : get_or near (number_of (kind_of (gate_at gates (get_or other second 0)))) false ≡ true =
         are (get_or other second 0) shared.0 next (full.inside second below) shared.1 shared.2 in
-        let no : get_or near (kind_of (gate_at gates (get_or other second 0))) false ≡ false = kind_is in
+        let no : get_or near (number_of (kind_of (gate_at gates (get_or other second 0)))) false ≡ false = kind_is in
         let clash : true ≡ false = sym yes ∙ no in absurd (cc)))
 
   pub none_near : HasNoFull gates pattern end front 1

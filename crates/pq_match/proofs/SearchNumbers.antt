@@ -3,14 +3,15 @@ use Rattle.std.specs.List.{All, AllPairs, slice_get}
 use Rattle.std.proofs.lemmas.Bool.{eq-eqb}
 use Rattle.std.proofs.lemmas.List.Kept.{AllPairs-cons}
 use Rattle.pq_gate.specs.declared.gate.Gate.{Gate}
-use Rattle.pq_rules.specs.Kinds.{kind_of, begins, numbers_starting}
+use Rattle.pq_gate.specs.Kind.{kind_of, number_of}
+use Rattle.pq_rules.specs.Kinds.{begins, numbers_starting}
 use Rattle.pq_rules.specs.Row.{RowView}
 use Rattle.pq_match.specs.Redex.{gate_at}
 use Rattle.pq_match.proofs.SearchPlaces.{StandsAt}
 
-pub begins_by_kind : (kind : ℕ) (pattern : List Gate) → 0 < length pattern → kind_of (gate_at pattern 0) ≡ kind → begins kind pattern ≡ true
+pub begins_by_kind : (kind : ℕ) (pattern : List Gate) → 0 < length pattern → number_of (kind_of (gate_at pattern 0)) ≡ kind → begins kind pattern ≡ true
 begins_by_kind kind [] some same = absurd (omega arith)
-begins_by_kind kind (gate ∷ rest) some same = eq-eqb (kind_of gate) kind same
+begins_by_kind kind (gate ∷ rest) some same = eq-eqb (number_of (kind_of gate)) kind same
 
 All-least : (a b : ℕ) (xs : List ℕ) → a ≤ b → All (λ n. b ≤ n) xs → All (λ n. a ≤ n) xs
 All-least a b xs less all k d below = omega (arith, all k d below)

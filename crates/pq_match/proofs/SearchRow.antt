@@ -6,8 +6,9 @@ use Rattle.pq_gate.specs.declared.gate.Gate.{Gate}
 use Rattle.pq_rules.specs.Kinds.{row_numbered}
 use Rattle.pq_rules.specs.Row.{RowView, IsSound}
 use Rattle.pq_match.specs.Redex.{RedexView, IsRedex, IsMatch, AreWires, last_place}
-use Rattle.pq_match.specs.First.{Precedes, key}
-use Rattle.pq_match.specs.Search.{IsFull, Begins, IsFirstFull, HasNoFull, HasNoneAmong, IsFirstAmong, IsOfRow}
+use Rattle.pq_match.specs.First.{Precedes, key, HasNoneAmong}
+use Rattle.pq_match.specs.Found.{IsFoundAmong}
+use Rattle.pq_match.specs.Search.{IsFull, Begins, IsFirstFull, HasNoFull, IsOfRow}
 use Rattle.pq_match.proofs.Growing.{grown_same}
 use Rattle.pq_match.proofs.RewritingWires.{places_long}
 use Rattle.pq_match.proofs.SearchChoice.{IsChoice}
@@ -41,29 +42,31 @@ module _ (rules : List RowView) (gates : List Gate) (number start end : ℕ) (ro
   none_of_row front at none = record { none = λ other is of. none.none other.places (other_full other is of) (begins_at_start front at other of) }
 
   pub first_of_row : (front : List ℕ) → get_or front 0 0 ≡ start → end ≤ length gates → (places : List ℕ) → IsFirstFull gates row.pattern end front 1 places →
-      IsFirstAmong (IsOfRow number start end) rules gates (record { row = number; count = length row.pattern; places = places })
+      IsFoundAmong (IsOfRow number start end) rules gates (record { row = number; count = length row.pattern; places = places })
   first_of_row front at ends places first = record {
     wires = chosen.choice;
-    is = record {
-      row = row;
-      numbered = numbered;
-      wires = full_apart row.wires gates row.pattern end (take (length row.pattern) places) sound.same.left sound.used full chosen;
-      some = (let w : length (take (length row.pattern) places) ≡ length row.pattern = whole in let s : 0 < length row.pattern = some in omega arith);
-      matches = full_matches row.wires gates row.pattern end (take (length row.pattern) places) sound.same.left sound.used full chosen whole ends;
-      free = full_free row.wires gates row.pattern end (take (length row.pattern) places) sound.same.left sound.used full whole;
+    first = record {
+      is = record {
+        row = row;
+        numbered = numbered;
+        wires = full_apart row.wires gates row.pattern end (take (length row.pattern) places) sound.same.left sound.wires.used full chosen;
+        some = (let w : length (take (length row.pattern) places) ≡ length row.pattern = whole in let s : 0 < length row.pattern = some in omega arith);
+        matches = full_matches row.wires gates row.pattern end (take (length row.pattern) places) sound.same.left sound.wires.used full chosen whole ends;
+        free = full_free row.wires gates row.pattern end (take (length row.pattern) places) sound.same.left sound.wires.used full whole;
+      };
+      among = (refl, first_place, ended);
+      first = λ other is of before. by other is of before;
     };
-    among = (refl, first_place, ended);
-    first = λ other is of before. by other is of before;
-    padded = record { few = sound.short; rest = rest };
+    padded = record { few = sound.shortens.short; rest = rest };
   }
     where
       some : 0 < length row.pattern
-      some = (let s : length row.replacement < length row.pattern = sound.shorter in omega arith)
+      some = (let s : length row.replacement < length row.pattern = sound.shortens.shorter in omega arith)
 
       whole : length (take (length row.pattern) places) ≡ length row.pattern
       whole =
           let e : length places ≡ 8 = first.eight.eight in
-          let s : length row.pattern ≤ 8 = sound.short in
+          let s : length row.pattern ≤ 8 = sound.shortens.short in
           omega (arith, length-take (length row.pattern) places)
 
       full : IsFull gates row.pattern end (take (length row.pattern) places)
@@ -71,7 +74,7 @@ module _ (rules : List RowView) (gates : List Gate) (number start end : ℕ) (ro
           (λ s below. sym (get_or-take (length row.pattern) places s 0 below)) first.full
 
       chosen : IsChoice (GoesWith gates row.pattern (take (length row.pattern) places)) row.wires
-      chosen = full_choice row.wires gates row.pattern end (take (length row.pattern) places) sound.same.left sound.used full
+      chosen = full_choice row.wires gates row.pattern end (take (length row.pattern) places) sound.same.left sound.wires.used full
 
       first_place : get_or (take (length row.pattern) places) 0 0 ≡ start
       first_place = get_or-take (length row.pattern) places 0 0 some ∙ (first.begins 0 (omega arith) ∙ at)

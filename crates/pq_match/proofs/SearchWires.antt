@@ -1,5 +1,7 @@
-use Rattle.std.proofs.Common.{◌≡◌, ℕ, true, false, sym, subst}
+use Rattle.std.proofs.Common.{◌≡◌, ℕ, true, false, sym, subst, ◌∙◌}
+use Rattle.std.specs.Prelude.{◌↔◌}
 use Rattle.pq_gate.specs.declared.gate.Gate.{Gate}
+use Rattle.pq_gate.specs.Ports.{first_wire, last_wire}
 use Rattle.pq_match.specs.Wires.{wire_of}
 use Rattle.pq_match.specs.Search.{IsAlike, AreAlike}
 
@@ -19,3 +21,18 @@ module _ (of_first of_second first second : Gate) (of_wire of_other wire other :
   pub second_alike : AreAlike of_first of_second first second → IsAlike of_other of_second other second
   second_alike alike =
       subst (λ (p : ℕ). IsAlike p of_second other second) (sym of_other_is) (subst (λ (w : ℕ). IsAlike (wire_of true of_first) of_second w second) (sym other_is) (alike true))
+
+-- A wire is alike where it is so for both wires of a gate.
+pub alike_by_each : (of_wire : ℕ) (of_gate : Gate) (wire : ℕ) (gate : Gate) {p q v w : ℕ} →
+    p ≡ first_wire of_gate → q ≡ last_wire of_gate → v ≡ first_wire gate → w ≡ last_wire gate →
+    ((wire ≡ v) ↔ (of_wire ≡ p)) → ((wire ≡ w) ↔ (of_wire ≡ q)) → IsAlike of_wire of_gate wire gate
+alike_by_each of_wire of_gate wire gate p_is q_is v_is w_is first last false = (λ e. first.0 (e ∙ sym v_is) ∙ p_is, λ e. first.1 (e ∙ sym p_is) ∙ v_is)
+alike_by_each of_wire of_gate wire gate p_is q_is v_is w_is first last true = (λ e. last.0 (e ∙ sym w_is) ∙ q_is, λ e. last.1 (e ∙ sym q_is) ∙ w_is)
+
+pub alike_at_first : (of_wire : ℕ) (of_gate : Gate) (wire : ℕ) (gate : Gate) {p v : ℕ} → p ≡ first_wire of_gate → v ≡ first_wire gate →
+    IsAlike of_wire of_gate wire gate → (wire ≡ v) ↔ (of_wire ≡ p)
+alike_at_first of_wire of_gate wire gate p_is v_is alike = (λ e. (alike false).0 (e ∙ v_is) ∙ sym p_is, λ e. (alike false).1 (e ∙ p_is) ∙ sym v_is)
+
+pub alike_at_last : (of_wire : ℕ) (of_gate : Gate) (wire : ℕ) (gate : Gate) {q w : ℕ} → q ≡ last_wire of_gate → w ≡ last_wire gate →
+    IsAlike of_wire of_gate wire gate → (wire ≡ w) ↔ (of_wire ≡ q)
+alike_at_last of_wire of_gate wire gate q_is w_is alike = (λ e. (alike true).0 (e ∙ w_is) ∙ sym q_is, λ e. (alike true).1 (e ∙ q_is) ∙ sym w_is)

@@ -4,12 +4,11 @@ use Rattle.std.specs.Prelude.{All, Option, Some, None}
 use Rattle.std.proofs.lemmas.Bool.{cases_eq}
 use Rattle.std.proofs.lemmas.List.Elements.{All-from_get_or}
 use Rattle.pq_gate.specs.declared.gate.Gate.{Gate}
-use Rattle.pq_gate.specs.declared.gate.Gate.TheVariants.{H, X, Phase, Cx}
-use Rattle.pq_gate.specs.Commuting.{Touches}
 use Rattle.pq_rules.specs.Row.{RowView, Uses, IsSound}
 use Rattle.pq_rules.specs.Renaming.{renamed}
 use Rattle.pq_match.specs.Redex.{RedexView, IsRedex, IsWithin, gate_at}
 use Rattle.pq_match.specs.First.{key, FirstWithin}
+use Rattle.pq_match.proofs.RenamedWires.{touches_renamed}
 use Rattle.pq_match.proofs.FirstOfSettled.{Settled, redex_within, above_wires, touched_below}
 use Rattle.pq_match.proofs.FirstOfOrder.{Comes, comes_cases, comes_through, comes_never_before_itself, comes_from_precedes}
 use Rattle.pq_match.proofs.RewritingWires.{places_long, chosen_at}
@@ -144,20 +143,13 @@ above_each [] place inside = absurd (omega arith)
 above_each (g ∷ gates) zero inside = omega arith
 above_each (g ∷ gates) (suc place) inside = omega (arith, above_each gates place (omega arith))
 
-touches_renamed : (e : List ℕ) (g : Gate) (w : ℕ) → Touches g w → Touches (renamed e g) (get_or e w 0)
-touches_renamed e (H v) w here = ap (λ (u : ℕ). get_or e u 0) here
-touches_renamed e (X v) w here = ap (λ (u : ℕ). get_or e u 0) here
-touches_renamed e (Phase k v) w here = ap (λ (u : ℕ). get_or e u 0) here
-touches_renamed e (Cx c t) w here =
-    elim here [ inl is ↦ inl (ap (λ (u : ℕ). get_or e u 0) is) | inr is ↦ inr (ap (λ (u : ℕ). get_or e u 0) is) ]
-
 module _ (rules : List RowView) (gates : List Gate) (sound : All IsSound rules) where
   -- the wires of a redex are wires of the gates
   wires_low : (x : RedexView) → IsRedex rules gates x → All (λ w. w < above_all gates) x.wires
   wires_low x is =
       All-from_get_or (λ w. w < above_all gates) x.wires 0
       (λ w inside.
-      let uses : Uses is.row.pattern w = (row_sound rules x.row is.row is.numbered sound).used w (omega (arith, is.wires.whole)) in
+      let uses : Uses is.row.pattern w = (row_sound rules x.row is.row is.numbered sound).wires.used w (omega (arith, is.wires.whole)) in
       let here : gate_at gates (get_or x.places uses.0 0) ≡ renamed x.wires uses.1 =
       chosen_at gates is.row.pattern x.wires x.places is.matches.chosen uses.0 uses.1 uses.2 ∙ ap (renamed x.wires) uses.3 in
       let touched : get_or x.wires w 0 < above_wires (renamed x.wires uses.1) =
@@ -190,11 +182,11 @@ module _ (rules : List RowView) (gates : List Gate) (sound : All IsSound rules) 
           low = number_small rules x.row is.row is.numbered;
           here = record {
             word = x.wires;
-            short = omega (arith, row.few, is.wires.whole);
+            short = omega (arith, row.wires.few, is.wires.whole);
             low = wires_low x is;
             here = record {
               word = x.places;
-              short = omega (arith, row.short, places_long gates is.row.pattern x.wires x.places is.matches.chosen);
+              short = omega (arith, row.shortens.short, places_long gates is.row.pattern x.wires x.places is.matches.chosen);
               low = is.matches.inside;
               here = refl;
             };
@@ -208,10 +200,10 @@ module _ (rules : List RowView) (gates : List Gate) (sound : All IsSound rules) 
             Some found.0,
             record {
               is = found.1.good.0;
-              within = found.1.good.1;
+              among = found.1.good.1;
               first = λ other is within before.
                   found.1.least other (covers other is) (is, within) (comes_from_precedes (key other) (key found.0) before);
             },
           )
-          | inr none ↦ (None, λ redex is within. none redex (covers redex is) (is, within))
+          | inr none ↦ (None, record { none = λ redex is within. none redex (covers redex is) (is, within) })
         ]

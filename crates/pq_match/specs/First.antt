@@ -14,20 +14,32 @@ Precedes (x ∷ xs) (y ∷ ys) = (x < y) ⊎ ((x ≡ y) × Precedes xs ys)
 abbrev pub key : RedexView → List ℕ
 key redex = slice_index redex.places 0 ∷ redex.row ∷ redex.places
 
--- a redex within the span such that none within it comes before
-pub record IsFirst (rules : List RowView) (gates : List Gate) (span : ℕ) (redex : RedexView) : Type 0 where
+-- the first of the redexes with a property: none of them comes before it
+pub record IsFirstAmong (P : RedexView → Type 0) (rules : List RowView) (gates : List Gate) (redex : RedexView) : Type 0 where
   pub is : IsRedex rules gates redex
-  pub within : IsWithin span redex
-  pub first : (other : RedexView) → IsRedex rules gates other → IsWithin span other → ¬ Precedes (key other) (key redex)
+  pub among : P redex
+  pub first : (other : RedexView) → IsRedex rules gates other → P other → ¬ Precedes (key other) (key redex)
+
+-- no redex has the property
+pub record HasNoneAmong (P : RedexView → Type 0) (rules : List RowView) (gates : List Gate) : Type 0 where
+  pub none : (redex : RedexView) → IsRedex rules gates redex → ¬ P redex
+
+-- the first of the redexes with a property, or none
+abbrev pub FirstAmong : (RedexView → Type 0) → List RowView → List Gate → Option RedexView → Type 0
+FirstAmong P rules gates (Some redex) = IsFirstAmong P rules gates redex
+FirstAmong P rules gates None = HasNoneAmong P rules gates
+
+-- the first of the redexes within the span
+abbrev pub IsFirst : List RowView → List Gate → ℕ → RedexView → Type 0
+IsFirst rules gates span redex = IsFirstAmong (IsWithin span) rules gates redex
 
 -- no redex lies within the span
 abbrev pub HasNoneWithin : List RowView → List Gate → ℕ → Type 0
-HasNoneWithin rules gates span = (redex : RedexView) → IsRedex rules gates redex → ¬ IsWithin span redex
+HasNoneWithin rules gates span = HasNoneAmong (IsWithin span) rules gates
 
 -- the first redex within the span, or none
 abbrev pub FirstWithin : List RowView → List Gate → ℕ → Option RedexView → Type 0
-FirstWithin rules gates span (Some redex) = IsFirst rules gates span redex
-FirstWithin rules gates span None = HasNoneWithin rules gates span
+FirstWithin rules gates span found = FirstAmong (IsWithin span) rules gates found
 
 -- The first redex of the whole list, or none: every redex lies within the list's length.
 abbrev pub First : List RowView → List Gate → Option RedexView → Type 0

@@ -1,13 +1,10 @@
 -- What the search for the first redex goes by: the places of a pattern's gates, without the wires.
 use Rattle.std.specs.Prelude.{◌≡◌, ◌≢◌, ℕ, ◌<◌, ◌≤◌, ◌↔◌, Bool, true, false, List, [], ◌∷◌, length, slice_index, slice_index_or, Option, Some, None}
+use Rattle.pq_limits.specs.declared.TheConstants.{MAX_ROW_GATES}
 use Rattle.pq_gate.specs.declared.gate.Gate.{Gate}
 use Rattle.pq_gate.specs.Commuting.{Touches, Commutes}
-use Rattle.pq_rules.specs.Kinds.{kind_of}
-use Rattle.pq_rules.specs.Row.{RowView}
-use Rattle.pq_match.specs.declared.redex.Redex.{Redex}
-use Rattle.pq_match.specs.Redex.{RedexView, IsRedex, gate_at, last_place}
-use Rattle.pq_match.specs.First.{Precedes, key}
-use Rattle.pq_match.specs.Found.{seen, IsPadded}
+use Rattle.pq_gate.specs.Kind.{kind_of, number_of}
+use Rattle.pq_match.specs.Redex.{RedexView, gate_at, last_place}
 use Rattle.pq_match.specs.Wires.{wire_of}
 
 -- the gates share no wire
@@ -47,7 +44,7 @@ pub record IsNext (gates : List Gate) (places : List ℕ) (count place : ℕ) : 
 -- of the kinds that are marked in `near`.
 abbrev pub HasKindsNear : List Gate → ℕ → ℕ → List Bool → Type 0
 HasKindsNear gates start end near = (place w : ℕ) → IsNext gates (start ∷ []) 1 place → place < end →
-    Touches (gate_at gates start) w → Touches (gate_at gates place) w → slice_index_or near (kind_of (gate_at gates place)) false ≡ true
+    Touches (gate_at gates start) w → Touches (gate_at gates place) w → slice_index_or near (number_of (kind_of (gate_at gates place))) false ≡ true
 
 -- all of the first `count` gates commute with the gate at the place
 pub record IsPassable (gates : List Gate) (places : List ℕ) (count place : ℕ) : Type 0 where
@@ -78,7 +75,7 @@ pub record IsBefore (count : ℕ) (places other : List ℕ) : Type 0 where
 
 -- eight places, of which those past `count` are 0
 pub record AreEight (places : List ℕ) (count : ℕ) : Type 0 where
-  pub eight : length places ≡ 8
+  pub eight : length places ≡ MAX_ROW_GATES
   pub rest : (s : ℕ) → count ≤ s → slice_index places s ≡ 0
 
 -- the least places of all the pattern's gates that begin in this way
@@ -96,23 +93,6 @@ pub record HasNoFull (gates pattern : List Gate) (end : ℕ) (front : List ℕ) 
 abbrev pub FindsFull : List Gate → List Gate → ℕ → List ℕ → ℕ → Option (List ℕ) → Type 0
 FindsFull gates pattern end front count (Some places) = IsFirstFull gates pattern end front count places
 FindsFull gates pattern end front count None = HasNoFull gates pattern end front count
-
--- the first of the redexes with a property
-pub record IsFirstAmong (P : RedexView → Type 0) (rules : List RowView) (gates : List Gate) (redex : Redex) : Type 0 where
-  pub wires : List ℕ
-  pub is : IsRedex rules gates (seen redex wires)
-  pub among : P (seen redex wires)
-  pub first : (other : RedexView) → IsRedex rules gates other → P other → ¬ Precedes (key other) (key (seen redex wires))
-  pub padded : IsPadded redex
-
--- no redex has a property
-pub record HasNoneAmong (P : RedexView → Type 0) (rules : List RowView) (gates : List Gate) : Type 0 where
-  pub none : (other : RedexView) → IsRedex rules gates other → ¬ P other
-
--- the first of the redexes with a property, or None where there is none
-abbrev pub FindsAmong : (RedexView → Type 0) → List RowView → List Gate → Option Redex → Type 0
-FindsAmong P rules gates (Some redex) = IsFirstAmong P rules gates redex
-FindsAmong P rules gates None = HasNoneAmong P rules gates
 
 -- its first place is the start, and all its places lie before the end
 abbrev pub IsFrom : ℕ → ℕ → RedexView → Type 0

@@ -1,3 +1,5 @@
+use pq_limits::MAX_ROW_GATES;
+
 /// A place where a row of rules may rewrite a list of gates.
 #[derive(Clone, Copy, Debug, PartialEq, Eq)]
 pub struct Redex {
@@ -8,5 +10,5 @@ pub struct Redex {
     pub count: u8,
 
     /// The places of these gates in the list, rising, counted from 0; 0 past the first `count`.
-    pub places: [u32; 8],
+    pub places: [u32; MAX_ROW_GATES],
 }

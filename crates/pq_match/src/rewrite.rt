@@ -8,15 +8,18 @@ ghost use Rattle.pq_rules.specs.Row.{Uses};
 ghost use Rattle.pq_rules.specs.Renaming.{renamed};
 ghost use Rattle.pq_match.specs.Redex.{IsMatch, gate_at, last_place};
 ghost use Rattle.pq_match.specs.Rewrite.{unchosen, rewritten};
+ghost use Rattle.pq_match.specs.Seek.{AreTried, AreKept};
 ghost use Rattle.pq_match.specs.Found.{IsRedexOf, Rewrites};
-ghost use Rattle.pq_match.specs.Wires.{first_wire, second_wire};
 
 use crate::laws::rewriting_keeps_the_matrix;
 use crate::redex::Redex;
 use crate::segment::Seg;
-use crate::wires::wires_of;
 use pq_gate::Gate;
+use pq_limits::MAX_ROW_WIRES;
 use pq_rules::{Row, Rules};
+
+// the most wires of a row, as a length
+const ROW_WIRES: usize = MAX_ROW_WIRES as usize;
 
 impl Seg {
     /// Rewrites a redex, in place: the chosen gates leave, and the replacement stands where the last of
@@ -29,13 +32,27 @@ impl Seg {
         ensures turn { result < 8 }
         ensures shorter { length self.new.items < length self.old.items }
         ensures room { self.new.room ≡ self.old.room }
+        ensures tried { AreTried rules.now self.old.items self.old.tried → AreTried rules.now self.new.items self.new.tried }
     {
         let row = rules.row(redex.row).unwrap();
         let places = &redex.places[..redex.count as usize];
         let left = rewrite(self.gates.as_mut_slice(), places, row);
         self.gates.truncate(left);
+        self.links.build(self.gates.as_slice());
+        keep_tried(self.tried.as_mut_slice(), redex.places[0]);
         rewriting_keeps_the_matrix();
         row.phase()
+    }
+}
+
+/// Keeps what is known of the starts whose searches looked at no place from `first` on.
+fn keep_tried(tried: &mut [u32], first: u32)
+    ensures { AreKept first tried.old tried.new }
+{
+    for start in 0..tried.len() {
+        if tried[start] > first {
+            tried[start] = 0;
+        }
     }
 }
 
@@ -59,14 +76,14 @@ fn rewrite(gates: &mut [Gate], places: &[u32], row: &Row) -> usize
 }
 
 /// Where the wires of the pattern are led to by the gates at the places.
-fn read_wires(gates: &[Gate], places: &[u32], pattern: &[Gate]) -> [u32; 3]
+fn read_wires(gates: &[Gate], places: &[u32], pattern: &[Gate]) -> [u32; ROW_WIRES]
     requires count { length places.now ≡ length pattern.now }
     requires inside { All (λ place. place < length gates.now) places.now }
-    requires on_wires { IsCircuit 3 pattern.now }
+    requires on_wires { IsCircuit MAX_ROW_WIRES pattern.now }
     ensures { (wires : List ℕ) → map (gate_at gates.now) places.now ≡ map (renamed wires) pattern.now →
         (w : ℕ) → Uses pattern.now w → slice_index result w ≡ slice_index wires w }
 {
-    let mut wires = [0; 3];
+    let mut wires = [0; ROW_WIRES];
     for (index, gate) in pattern.iter().enumerate() {
         lead(&mut wires, *gate, gates[places[index] as usize]);
     }
@@ -74,17 +91,15 @@ fn read_wires(gates: &[Gate], places: &[u32], pattern: &[Gate]) -> [u32; 3]
 }
 
 /// Leads the wires of a gate to those of another gate.
-fn lead(wires: &mut [u32; 3], gate: Gate, to: Gate)
-    requires { IsOnWires 3 gate }
+fn lead(wires: &mut [u32; ROW_WIRES], gate: Gate, to: Gate)
+    requires { IsOnWires MAX_ROW_WIRES gate }
     ensures touched { (e : List ℕ) → to ≡ renamed e gate → (w : ℕ) → Touches gate w →
         slice_index wires.new w ≡ slice_index e w }
     ensures others { (e : List ℕ) → to ≡ renamed e gate → (w : ℕ) → slice_index wires.old w ≡ slice_index e w →
         slice_index wires.new w ≡ slice_index e w }
 {
-    let (first, second) = wires_of(gate);
-    let (to_first, to_second) = wires_of(to);
-    wires[first as usize] = to_first;
-    wires[second as usize] = to_second;
+    wires[gate.first_wire() as usize] = to.first_wire();
+    wires[gate.last_wire() as usize] = to.last_wire();
 }
 
 /// Closes up the gates before `end` that aren't chosen, where the last chosen gate stands before `end`.
@@ -113,9 +128,9 @@ fn close_up(gates: &mut [Gate], places: &[u32], end: usize) -> usize
 }
 
 /// Puts gates, their wires renamed, from a place on.
-fn put(gates: &mut [Gate], start: usize, replacement: &[Gate], wires: &[u32; 3])
+fn put(gates: &mut [Gate], start: usize, replacement: &[Gate], wires: &[u32; ROW_WIRES])
     requires room { start + length replacement.now ≤ length gates.old }
-    requires on_wires { IsCircuit 3 replacement.now }
+    requires on_wires { IsCircuit MAX_ROW_WIRES replacement.now }
     ensures front { take (start + length replacement.now) gates.new ≡ take start gates.old ++ map (renamed wires.now) replacement.now }
     ensures rest { drop (start + length replacement.now) gates.new ≡ drop (start + length replacement.now) gates.old }
 {
@@ -125,24 +140,11 @@ fn put(gates: &mut [Gate], start: usize, replacement: &[Gate], wires: &[u32; 3])
 }
 
 /// The gate with its wires renamed.
-fn rename(gate: Gate, wires: &[u32; 3]) -> Gate
-    requires { IsOnWires 3 gate }
+fn rename(gate: Gate, wires: &[u32; ROW_WIRES]) -> Gate
+    requires { IsOnWires MAX_ROW_WIRES gate }
     ensures { result ≡ renamed wires.now gate }
 {
-    match gate {
-        Gate::H { wire } => Gate::H {
-            wire: wires[wire as usize],
-        },
-        Gate::X { wire } => Gate::X {
-            wire: wires[wire as usize],
-        },
-        Gate::Phase { eighths, wire } => Gate::Phase {
-            eighths,
-            wire: wires[wire as usize],
-        },
-        Gate::Cx { control, target } => Gate::Cx {
-            control: wires[control as usize],
-            target: wires[target as usize],
-        },
-    }
+    let first = wires[gate.first_wire() as usize];
+    let last = wires[gate.last_wire() as usize];
+    gate.on(first, last)
 }

@@ -7,8 +7,10 @@ ghost use Rattle.pq_match.specs.Found.{IsRedexOf};
 use crate::redex::Redex;
 use crate::segment::Seg;
 use pq_gate::{Eighths, Gate};
+use pq_limits::{MAX_ROW_GATES, MAX_SEGMENT};
+use pq_list::OutOfMemory;
 use pq_rules::Rules;
-use std::alloc::{AllocError, Global};
+use std::alloc::Global;
 use std::process::Abort;
 use std::test::Fail;
 
@@ -66,8 +68,8 @@ const CX_1_2: Gate = Gate::Cx {
 };
 
 // a segment of these gates
-fn segment_of(alloc: Global, gates: &[Gate]) -> Result<Seg, AllocError>
-    requires { length gates.now ≤ 2048 }
+fn segment_of(alloc: Global, gates: &[Gate]) -> Result<Seg, OutOfMemory>
+    requires { length gates.now ≤ MAX_SEGMENT }
     ensures { IfOk result (λ seg. seg.items ≡ gates.now) }
 {
     let mut seg = Seg::reserve(alloc, gates.len() as u32)?;
@@ -83,11 +85,11 @@ fn rewrites_to(
     gates: &[Gate],
     row: u32,
     count: u8,
-    places: [u32; 8],
+    places: [u32; MAX_ROW_GATES],
     new: &[Gate],
     turn: u8,
-) -> Result<(), AllocError>
-    requires few { length gates.now ≤ 2048 }
+) -> Result<(), OutOfMemory>
+    requires few { length gates.now ≤ MAX_SEGMENT }
     requires redex { IsRedexOf builtin_rows gates.now (record { row = row; count = count; places = places }) }
 {
     let redex = Redex { row, count, places };

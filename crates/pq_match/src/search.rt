@@ -1,30 +1,23 @@
-ghost use Rattle.std.specs.Prelude.{◌≡◌, ℕ, ◌+◌, ◌%◌, ◌<◌, ◌≤◌, ◌↔◌, IsTrue, true, false, length, slice_index, slice_index_or, slice_set};
+ghost use Rattle.std.specs.Prelude.{◌≡◌, ℕ, ◌+◌, ◌%◌, ◌<◌, ◌≤◌, ◌↔◌, IsTrue, IfSome, IfNone, true, false, length, slice_index, slice_index_or, slice_set};
 ghost use Rattle.pq_gate.specs.Commuting.{Touches, Commutes};
-ghost use Rattle.pq_rules.specs.Kinds.{kind_of};
-ghost use Rattle.pq_match.specs.Redex.{gate_at};
-ghost use Rattle.pq_match.specs.Found.{FindsWithin};
-ghost use Rattle.pq_match.specs.Search.{AreApart, IsAlike, AreAlike, IsFitting, IsNext, HasKindsNear, IsPassable, IsGrown, FindsFull, AreEight, FindsAmong, IsFrom, IsOfRow};
+ghost use Rattle.pq_gate.specs.Kind.{kind_of, number_of};
+ghost use Rattle.pq_match.specs.Redex.{HasNoRedex, gate_at};
+ghost use Rattle.pq_match.specs.Found.{FindsAmong, FindsWithin, IsFirstFound};
+ghost use Rattle.pq_match.specs.Search.{AreApart, IsAlike, AreAlike, IsFitting, IsNext, HasKindsNear, IsPassable, IsGrown, FindsFull, AreEight, IsFrom, IsOfRow};
 
 use crate::redex::Redex;
-use crate::segment::Seg;
-use crate::wires::wires_of;
-use pq_gate::{Eighths, Gate, commutes};
+use pq_gate::{Gate, KINDS, commutes};
+use pq_limits::{MAX_GATES, MAX_ROW_GATES};
 use pq_rules::Rules;
 
-/// The first redex of a segment: the least first place, then the least row, then the least places in
-/// the order of a dictionary. None exactly where there is none. It takes no memory.
-pub fn find_first(seg: &Seg, rules: &Rules) -> Option<Redex>
-    ensures { FindsWithin rules.now seg.now.items (length seg.now.items) result }
-{
-    let gates = seg.gates();
-    find_within(gates, rules, gates.len() as u32)
-}
+// how many numbers of kinds there are, as a length
+const KIND_NUMBERS: usize = KINDS as usize;
 
 /// The first redex of at most 1,048,576 gates whose last place minus its first place is less than
 /// `span`. None exactly where there is none. It takes no memory.
 #[tactic(auto, using(crate::proofs::SearchWithin::none_before_first, crate::proofs::SearchWithin::none_before_more, crate::proofs::SearchWithin::none_at_all, crate::proofs::SearchWithin::first_from_here))]
 pub fn find_within(gates: &[Gate], rules: &Rules, span: u32) -> Option<Redex>
-    requires { length gates.now ≤ 1048576 }
+    requires { length gates.now ≤ MAX_GATES }
     ensures { FindsWithin rules.now gates.now span result }
 {
     if span == 0 {
@@ -43,7 +36,7 @@ pub fn find_within(gates: &[Gate], rules: &Rules, span: u32) -> Option<Redex>
 // the first redex whose first place is the start and whose places all lie before the end
 #[tactic(auto, using(crate::proofs::SearchFrom::none_tried, crate::proofs::SearchFrom::tried_more, crate::proofs::SearchFrom::tried_first))]
 fn find_from(gates: &[Gate], rules: &Rules, start: u32, end: u32) -> Option<Redex>
-    requires few { length gates.now ≤ 1048576 }
+    requires few { length gates.now ≤ MAX_GATES }
     requires start { start < end }
     requires end { end ≤ length gates.now }
     ensures { FindsAmong (IsFrom start end) rules.now gates.now result }
@@ -61,14 +54,14 @@ fn find_from(gates: &[Gate], rules: &Rules, start: u32, end: u32) -> Option<Rede
 // commute with it. In a match that begins at the start, the next gate that shares a wire with the first is of
 // one of these kinds, so one pass rules out most rows.
 #[tactic(auto, using(crate::proofs::SearchNear::near_begins, crate::proofs::SearchNear::near_passes, crate::proofs::SearchNear::near_grows, crate::proofs::SearchNear::near_stops, crate::proofs::SearchNear::near_ends))]
-fn kinds_near(gates: &[Gate], start: u32, end: u32) -> [bool; 10]
-    requires few { length gates.now ≤ 1048576 }
+fn kinds_near(gates: &[Gate], start: u32, end: u32) -> [bool; KIND_NUMBERS]
+    requires few { length gates.now ≤ MAX_GATES }
     requires start { start < end }
     requires end { end ≤ length gates.now }
     ensures { HasKindsNear gates.now start end result }
 {
     let gate = gates[start as usize];
-    let mut near = [false; 10];
+    let mut near = [false; KIND_NUMBERS];
     for place in start + 1..end {
         let other = gates[place as usize];
         if are_apart(gate, other) {
@@ -89,9 +82,9 @@ fn find_row(
     number: u32,
     start: u32,
     end: u32,
-    near: &[bool; 10],
+    near: &[bool; KIND_NUMBERS],
 ) -> Option<Redex>
-    requires few { length gates.now ≤ 1048576 }
+    requires few { length gates.now ≤ MAX_GATES }
     requires start { start < end }
     requires end { end ≤ length gates.now }
     requires near { HasKindsNear gates.now start end near.now }
@@ -105,7 +98,7 @@ fn find_row(
     if second < pattern.len() && !near[kind(pattern[second])] {
         return None;
     }
-    let Some(places) = extend_at(gates, pattern, end, &[0; 8], 0, start) else {
+    let Some(places) = extend_at(gates, pattern, end, &[0; MAX_ROW_GATES], 0, start) else {
         return None;
     };
     Some(Redex {
@@ -138,12 +131,12 @@ fn extend_at(
     gates: &[Gate],
     pattern: &[Gate],
     end: u32,
-    places: &[u32; 8],
+    places: &[u32; MAX_ROW_GATES],
     count: usize,
     place: u32,
-) -> Option<[u32; 8]>
-    requires few { length gates.now ≤ 1048576 }
-    requires short { length pattern.now ≤ 8 }
+) -> Option<[u32; MAX_ROW_GATES]>
+    requires few { length gates.now ≤ MAX_GATES }
+    requires short { length pattern.now ≤ MAX_ROW_GATES }
     requires end { end ≤ length gates.now }
     requires next { count < length pattern.now }
     requires place { place < end }
@@ -170,12 +163,12 @@ fn extend_by_kind(
     gates: &[Gate],
     pattern: &[Gate],
     end: u32,
-    places: &[u32; 8],
+    places: &[u32; MAX_ROW_GATES],
     count: usize,
     place: u32,
-) -> Option<[u32; 8]>
-    requires few { length gates.now ≤ 1048576 }
-    requires short { length pattern.now ≤ 8 }
+) -> Option<[u32; MAX_ROW_GATES]>
+    requires few { length gates.now ≤ MAX_GATES }
+    requires short { length pattern.now ≤ MAX_ROW_GATES }
     requires end { end ≤ length gates.now }
     requires next { count < length pattern.now }
     requires place { place < end }
@@ -197,11 +190,11 @@ fn extend(
     gates: &[Gate],
     pattern: &[Gate],
     end: u32,
-    places: &[u32; 8],
+    places: &[u32; MAX_ROW_GATES],
     count: usize,
-) -> Option<[u32; 8]>
-    requires few { length gates.now ≤ 1048576 }
-    requires short { length pattern.now ≤ 8 }
+) -> Option<[u32; MAX_ROW_GATES]>
+    requires few { length gates.now ≤ MAX_GATES }
+    requires short { length pattern.now ≤ MAX_ROW_GATES }
     requires end { end ≤ length gates.now }
     requires next { count < length pattern.now }
     requires some { 0 < count }
@@ -232,8 +225,8 @@ fn extend(
 }
 
 // The wires of the chosen gates, each by its remainder by 64, which other wires may have too.
-fn wires_used(gates: &[Gate], places: &[u32; 8], count: usize) -> [bool; 64]
-    requires few { count ≤ 8 }
+fn wires_used(gates: &[Gate], places: &[u32; MAX_ROW_GATES], count: usize) -> [bool; 64]
+    requires few { count ≤ MAX_ROW_GATES }
     requires inside { (s : ℕ) → s < count → slice_index places.now s < length gates.now }
     ensures { (s w : ℕ) → s < count → Touches (gate_at gates.now (slice_index places.now s)) w → slice_index_or result (w % 64) false ≡ true }
 {
@@ -249,13 +242,14 @@ fn use_wires(used: &mut [bool; 64], gate: Gate)
     ensures own { (w : ℕ) → Touches gate w → slice_index_or used.new (w % 64) false ≡ true }
     ensures others { (k : ℕ) → slice_index_or used.old k false ≡ true → slice_index_or used.new k false ≡ true }
 {
-    let (wire, other) = wires_of(gate);
+    let wire = gate.first_wire();
+    let other = gate.last_wire();
     used[wire as usize % 64] = true;
     used[other as usize % 64] = true;
 }
 
 // whether the gate shares no wire with those before it
-fn stands_apart(pattern: &[Gate], number: usize) -> bool
+pub(crate) fn stands_apart(pattern: &[Gate], number: usize) -> bool
     requires { number < length pattern.now }
     ensures { IsTrue result ↔ ((before : ℕ) → before < number → AreApart (gate_at pattern.now before) (gate_at pattern.now number)) }
 {
@@ -270,7 +264,7 @@ fn stands_apart(pattern: &[Gate], number: usize) -> bool
 // The next place where the walk has to look: the gate there may use a wire of the chosen gates, or is of the
 // kind of the next gate, where that is free to use other wires. All places before it are passed over.
 fn next_place(gates: &[Gate], used: &[bool; 64], free: bool, next: Gate, from: u32, end: u32) -> u32
-    requires few { length gates.now ≤ 1048576 }
+    requires few { length gates.now ≤ MAX_GATES }
     requires from { from ≤ end }
     requires end { end ≤ length gates.now }
     ensures behind { from ≤ result }
@@ -291,14 +285,13 @@ fn next_place(gates: &[Gate], used: &[bool; 64], free: bool, next: Gate, from: u
 fn may_use(gate: Gate, used: &[bool; 64]) -> bool
     ensures { result ≡ false → (w : ℕ) → Touches gate w → slice_index_or used.now (w % 64) false ≡ false }
 {
-    let (wire, other) = wires_of(gate);
-    used[wire as usize % 64] || used[other as usize % 64]
+    used[gate.first_wire() as usize % 64] || used[gate.last_wire() as usize % 64]
 }
 
 // whether the gate at the last of the places fits to the pattern, and to the gates before it
-fn fits(gates: &[Gate], pattern: &[Gate], places: &[u32; 8], last: usize) -> bool
+pub(crate) fn fits(gates: &[Gate], pattern: &[Gate], places: &[u32; MAX_ROW_GATES], last: usize) -> bool
     requires next { last < length pattern.now }
-    requires short { length pattern.now ≤ 8 }
+    requires short { length pattern.now ≤ MAX_ROW_GATES }
     requires inside { (s : ℕ) → s ≤ last → slice_index places.now s < length gates.now }
     ensures { IsTrue result ↔ IsFitting gates.now pattern.now places.now last }
 {
@@ -315,8 +308,8 @@ fn fits(gates: &[Gate], pattern: &[Gate], places: &[u32; 8], last: usize) -> boo
 }
 
 // whether the gate at the place commutes with all the chosen gates
-fn is_passable(gates: &[Gate], places: &[u32; 8], count: usize, place: u32) -> bool
-    requires few { count ≤ 8 }
+pub(crate) fn is_passable(gates: &[Gate], places: &[u32; MAX_ROW_GATES], count: usize, place: u32) -> bool
+    requires few { count ≤ MAX_ROW_GATES }
     requires place { place < length gates.now }
     requires inside { (s : ℕ) → s < count → slice_index places.now s < length gates.now }
     ensures { IsTrue result ↔ IsPassable gates.now places.now count place }
@@ -342,24 +335,19 @@ fn are_commuting(first: Gate, second: Gate) -> bool
 fn are_apart(first: Gate, second: Gate) -> bool
     ensures { IsTrue result ↔ AreApart first second }
 {
-    let (wire, other) = wires_of(first);
-    !touches(second, wire) && (other == wire || !touches(second, other))
-}
-
-// whether the wire is one of the gate's wires
-fn touches(gate: Gate, wire: u32) -> bool
-    ensures { IsTrue result ↔ Touches gate wire }
-{
-    let (own, other) = wires_of(gate);
-    wire == own || wire == other
+    let wire = first.first_wire();
+    let other = first.last_wire();
+    !second.touches(wire) && (other == wire || !second.touches(other))
 }
 
 // whether the wires of two gates are equal exactly where those of the pattern's gates are
 fn are_alike(of_first: Gate, of_second: Gate, first: Gate, second: Gate) -> bool
     ensures { IsTrue result ↔ AreAlike of_first of_second first second }
 {
-    let (of_wire, of_other) = wires_of(of_first);
-    let (wire, other) = wires_of(first);
+    let of_wire = of_first.first_wire();
+    let of_other = of_first.last_wire();
+    let wire = first.first_wire();
+    let other = first.last_wire();
     is_alike(of_wire, of_second, wire, second) && is_alike(of_other, of_second, other, second)
 }
 
@@ -367,39 +355,28 @@ fn are_alike(of_first: Gate, of_second: Gate, first: Gate, second: Gate) -> bool
 fn is_alike(of_wire: u32, of_gate: Gate, wire: u32, gate: Gate) -> bool
     ensures { IsTrue result ↔ IsAlike of_wire of_gate wire gate }
 {
-    let (p, q) = wires_of(of_gate);
-    let (v, w) = wires_of(gate);
-    (wire == v) == (of_wire == p) && (wire == w) == (of_wire == q)
+    are_one_where(wire, gate.first_wire(), of_wire, of_gate.first_wire())
+        && are_one_where(wire, gate.last_wire(), of_wire, of_gate.last_wire())
 }
 
-// the kind of a gate, as a number
-fn kind(gate: Gate) -> usize
-    ensures kind { result ≡ kind_of gate }
-    ensures few { result < 10 }
+// whether two wires are one exactly where two wires of the pattern are
+fn are_one_where(wire: u32, own: u32, of_wire: u32, of_own: u32) -> bool
+    ensures { IsTrue result ↔ ((wire ≡ own) ↔ (of_wire ≡ of_own)) }
 {
-    match gate {
-        Gate::H { .. } => 0,
-        Gate::X { .. } => 1,
-        Gate::Cx { .. } => 2,
-        Gate::Phase { eighths, .. } => match eighths {
-            Eighths::T => 3,
-            Eighths::S => 4,
-            Eighths::Z => 6,
-            Eighths::Sdg => 8,
-            Eighths::Tdg => 9,
-        },
-    }
+    (wire == own) == (of_wire == of_own)
+}
+
+// the number of the kind of a gate
+fn kind(gate: Gate) -> usize
+    ensures kind { result ≡ number_of (kind_of gate) }
+    ensures few { result < KINDS }
+{
+    gate.kind().number() as usize
 }
 
 // whether the gates are of one kind: phases, by the same eighths
-fn are_of_one_kind(first: Gate, second: Gate) -> bool
+pub(crate) fn are_of_one_kind(first: Gate, second: Gate) -> bool
     ensures { IsTrue result ↔ (kind_of first ≡ kind_of second) }
 {
-    match (first, second) {
-        (Gate::H { .. }, Gate::H { .. }) => true,
-        (Gate::X { .. }, Gate::X { .. }) => true,
-        (Gate::Cx { .. }, Gate::Cx { .. }) => true,
-        (Gate::Phase { eighths, .. }, Gate::Phase { eighths: other, .. }) => eighths == other,
-        _ => false,
-    }
+    first.kind() == second.kind()
 }

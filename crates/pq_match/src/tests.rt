@@ -1,7 +1,8 @@
 use crate::{Redex, Seg, find_first, find_within};
 use pq_gate::{Eighths, Gate};
+use pq_list::OutOfMemory;
 use pq_rules::Rules;
-use std::alloc::{AllocError, Global};
+use std::alloc::Global;
 use std::process::Abort;
 use std::test::Fail;
 
@@ -32,7 +33,7 @@ fn gate_on(kind: u8, wire: u32) -> Option<Gate> {
     Some(Gate::Phase { eighths, wire })
 }
 
-fn gates_of(alloc: Global, text: &str) -> Result<Vec<Gate>, AllocError> {
+fn gates_of(alloc: Global, text: &str) -> Result<Vec<Gate>, OutOfMemory> {
     let mut gates = Vec::new(alloc);
     for word in text.split(' ') {
         if let Some(gate) = gate_of(word.as_bytes()) {
@@ -43,7 +44,7 @@ fn gates_of(alloc: Global, text: &str) -> Result<Vec<Gate>, AllocError> {
 }
 
 // The number of the row and the places, as in `4 at 0 2`.
-fn told(alloc: Global, found: Option<Redex>) -> Result<String, AllocError> {
+fn told(alloc: Global, found: Option<Redex>) -> Result<String, OutOfMemory> {
     let Some(redex) = found else {
         return String::from_str(alloc, "none");
     };
@@ -61,7 +62,7 @@ fn first_is(
     list: &str,
     span: u32,
     expected: &str,
-) -> Result<(), AllocError> {
+) -> Result<(), OutOfMemory> {
     let gates = gates_of(rt.alloc(), list)?;
     assert!(rt; gates.len() < 100);
     let found = told(rt.alloc(), find_within(&gates, rules, span))?;

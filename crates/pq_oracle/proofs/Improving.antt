@@ -1,5 +1,5 @@
 -- The oracle's answers by one rewriting after another.
-use Rattle.std.proofs.Common.{◌≤◌, ◌↔◌, Some, None, ◌≡◌, ℕ, ◌+◌, ◌%◌, ◌<◌, Bool, true, false, ◌||◌, List, length, refl, ap, ◌∙◌, subst, arith}
+use Rattle.std.proofs.Common.{◌≤◌, ◌↔◌, ◌≡◌, ℕ, ◌+◌, ◌%◌, ◌<◌, Bool, true, false, ◌||◌, List, length, refl, ap, ◌∙◌, subst, arith}
 use Rattle.pq_gate.specs.declared.gate.Gate.{Gate}
 use Rattle.pq_gate.specs.Circuit.{IsCircuit}
 use Rattle.pq_gate.specs.Matrix.{Same}
@@ -7,9 +7,8 @@ use Rattle.pq_gate.proofs.SameLaws.{same_reflexive, same_transitive}
 use Rattle.pq_rules.specs.Row.{RowView}
 use Rattle.pq_match.specs.Redex.{RedexView, HasNoRedex}
 use Rattle.pq_match.specs.First.{IsFirst}
-use Rattle.pq_match.specs.Found.{seen, FindsWithin, IsRedexOf, Rewrites}
+use Rattle.pq_match.specs.Found.{seen, IsFirstFound, IsRedexOf, Rewrites}
 use Rattle.pq_match.specs.declared.redex.Redex.{Redex}
-use Rattle.pq_match.proofs.OneFirst.{first_of_all}
 use Rattle.pq_oracle.specs.Outcomes.{answer_of}
 use Rattle.pq_oracle.proofs.Answering.{improved, unchanged}
 use Rattle.pq_match.specs.Rewrite.{rewritten}
@@ -81,7 +80,7 @@ pub record IsLed (rules : List RowView) (old now : List Gate) (so_far : Outcome)
   pub shorter : length now ≤ length old
 
 -- a redex that was found is one
-pub found_redex : (rules : List RowView) (gates : List Gate) (redex : Redex) → FindsWithin rules gates (length gates) (Some redex) → IsRedexOf rules gates redex
+pub found_redex : (rules : List RowView) (gates : List Gate) (redex : Redex) → IsFirstFound rules gates (length gates) redex → IsRedexOf rules gates redex
 found_redex rules gates redex found = record { wires = found.wires; is = found.first.is; few = found.padded.few }
 
 -- before the first rewriting
@@ -90,7 +89,7 @@ led_yet rules gates = record { leads = none_yet rules gates; small = omega arith
 
 -- one rewriting more, of the redex that was found
 pub led_on : (rules : List RowView) (old now new : List Gate) (so_far : Outcome) (redex : Redex) (phase : ℕ)
-    → IsLed rules old now so_far → FindsWithin rules now (length now) (Some redex) → Rewrites rules now redex new phase
+    → IsLed rules old now so_far → IsFirstFound rules now (length now) redex → Rewrites rules now redex new phase
     → ((n : ℕ) → IsCircuit n now → Same n now new phase) → length new < length now
     → IsLed rules old new (record { improved = true; phase = (so_far.phase + phase) % 8 })
 led_on rules old now new so_far redex phase led found rewrites same shorter =
@@ -104,16 +103,13 @@ led_on rules old now new so_far redex phase led found rewrites same shorter =
 
 -- none was found any more
 pub led_oracle : (rules : List RowView) (old now : List Gate) (so_far : Outcome) → IsLed rules old now so_far
-    → FindsWithin rules now (length now) None → Ora rules old (answer_of now so_far)
-led_oracle rules old now so_far led none = last_one rules old now so_far led.small led.leads (first_of_all rules now none)
-
-pub led_clean : (rules : List RowView) (now : List Gate) → FindsWithin rules now (length now) None → HasNoRedex rules now
-led_clean rules now none = first_of_all rules now none
+    → HasNoRedex rules now → Ora rules old (answer_of now so_far)
+led_oracle rules old now so_far led none = last_one rules old now so_far led.small led.leads none
 
 pub led_unchanged : (rules : List RowView) (old now : List Gate) (so_far : Outcome) → IsLed rules old now so_far
-    → FindsWithin rules now (length now) None → so_far.improved ≡ false → (now ≡ old) × (so_far.phase ≡ 0)
+    → HasNoRedex rules now → so_far.improved ≡ false → (now ≡ old) × (so_far.phase ≡ 0)
 led_unchanged rules old now so_far led none = unchanged rules old _ (led_oracle rules old now so_far led none)
 
 pub led_improved : (rules : List RowView) (old now : List Gate) (so_far : Outcome) → IsLed rules old now so_far
-    → FindsWithin rules now (length now) None → so_far.improved ≡ false ↔ HasNoRedex rules old
+    → HasNoRedex rules now → so_far.improved ≡ false ↔ HasNoRedex rules old
 led_improved rules old now so_far led none = improved rules old _ (led_oracle rules old now so_far led none)

@@ -5,7 +5,7 @@ ghost use Rattle.pq_match.specs.Redex.{HasNoRedex};
 ghost use Rattle.pq_oracle.specs.Ora.{Ora};
 ghost use Rattle.pq_oracle.specs.Outcomes.{answer_of};
 
-use pq_match::{Seg, find_first};
+use pq_match::Seg;
 use pq_rules::Rules;
 
 /// What came of a segment.
@@ -20,7 +20,7 @@ pub struct Outcome {
 
 /// Rewrites the first redex of a segment, again and again, until there is none: the segment becomes the
 /// oracle's answer to it. It takes no memory.
-#[tactic(auto, using(crate::proofs::Improving::found_redex, crate::proofs::Improving::led_yet, crate::proofs::Improving::led_on, crate::proofs::Improving::led_oracle, crate::proofs::Improving::led_clean))]
+#[tactic(auto, using(crate::proofs::Improving::found_redex, crate::proofs::Improving::led_yet, crate::proofs::Improving::led_on, crate::proofs::Improving::led_oracle))]
 pub fn improve(rules: &Rules, seg: &mut Seg) -> Outcome
     ensures oracle { Ora rules.now seg.old.items (answer_of seg.new.items result) }
     ensures clean { HasNoRedex rules.now seg.new.items }
@@ -34,7 +34,8 @@ pub fn improve(rules: &Rules, seg: &mut Seg) -> Outcome
         improved: false,
         phase: 0,
     };
-    'rewrites: while let Some(redex) = find_first(seg, rules) {
+    seg.forget();
+    'rewrites: while let Some(redex) = seg.find_on(rules) {
         let phase = seg.apply(rules, &redex);
         outcome = Outcome {
             improved: true,

@@ -2,11 +2,13 @@ ghost use Rattle.std.specs.Prelude.{◌≡◌, ◌≤◌, length, IfOk};
 
 use crate::{Outcome, Worked, WorkedList, improve};
 use pq_gate::{Eighths, Gate, GateList};
+use pq_list::OutOfMemory;
 use pq_match::Seg;
 use pq_rules::Rules;
-use std::alloc::{AllocError, Global};
+use std::alloc::Global;
 use std::process::Abort;
 use std::test::Fail;
+use std::thread::join;
 
 const H: Gate = Gate::H { wire: 0 };
 
@@ -38,7 +40,7 @@ const TDG: Gate = Gate::Phase {
 };
 
 // The segment of these gates, with room for no more.
-fn segment(alloc: Global, gates: &[Gate]) -> Result<Seg, AllocError>
+fn segment(alloc: Global, gates: &[Gate]) -> Result<Seg, OutOfMemory>
     requires { length gates.now ≤ 16 }
     ensures { IfOk result (λ seg. seg.items ≡ gates.now) }
 {
@@ -55,7 +57,7 @@ fn leaves(
     left: &[Gate],
     improved: bool,
     phase: u8,
-) -> Result<(), AllocError>
+) -> Result<(), OutOfMemory>
     requires { length gates.now ≤ 16 }
 {
     let rules = Rules::builtin(rt.alloc())?;
@@ -78,6 +80,21 @@ fn rewriting_goes_on_until_there_is_no_redex(rt: HostRuntime) -> Result<(), Fail
     Ok(())
 }
 
+// Two H gates, worked under this ticket.
+fn worked<'r>(alloc: Global, rules: &'r Rules, ticket: u64) -> Result<Worked<'r>, OutOfMemory> {
+    let input = GateList::of(Vec::from_slice(alloc, &[H, H])?);
+    let seg = segment(alloc, &[H, H])?;
+    Ok(Worked::of(rules, ticket, input, seg))
+}
+
+fn is_worked(rt: &impl Abort, worked: &Worked<'_>, ticket: u64) {
+    assert_eq!(rt; worked.ticket(), ticket);
+    assert!(rt; worked.input() == [H, H].as_slice());
+    assert!(rt; worked.output().is_empty());
+    assert!(rt; worked.improved());
+    assert_eq!(rt; worked.phase(), 0);
+}
+
 #[test]
 fn worked_segments_are_kept_with_their_input_and_their_answer(rt: HostRuntime) -> Result<(), Fail> {
     let rules = Rules::builtin(rt.alloc())?;
@@ -86,13 +103,23 @@ fn worked_segments_are_kept_with_their_input_and_their_answer(rt: HostRuntime) -
     let input = GateList::of(Vec::from_slice(rt.alloc(), &[H, H])?);
     let seg = segment(rt.alloc(), &[H, H])?;
     list.push_kept(Worked::of(&rules, 7, input, seg));
-    for worked in list.as_slice() {
-        assert_eq!(&rt; worked.ticket(), 7);
-        assert!(&rt; worked.input() == [H, H].as_slice());
-        assert!(&rt; worked.output().is_empty());
-        assert!(&rt; worked.improved());
-        assert_eq!(&rt; worked.phase(), 0);
+    for kept in list.as_slice() {
+        is_worked(&rt, kept, 7);
     }
     assert_eq!(&rt; list.as_slice().len(), 1);
+    Ok(())
+}
+
+#[test]
+fn two_threads_share_the_rules_and_hand_back_what_they_worked(rt: HostRuntime) -> Result<(), Fail> {
+    let alloc = rt.alloc();
+    let rules = Rules::builtin(alloc)?;
+    let (first, second) = join(
+        &rt,
+        || worked(alloc, &rules, 1),
+        || worked(alloc, &rules, 2),
+    );
+    is_worked(&rt, &first?, 1);
+    is_worked(&rt, &second?, 2);
     Ok(())
 }

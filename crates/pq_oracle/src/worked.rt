@@ -4,7 +4,7 @@ ghost use Rattle.pq_oracle.specs.Outcomes.{WorkedView};
 
 use crate::oracle::{Outcome, improve};
 use pq_gate::{Gate, GateList};
-use pq_list::RoomList;
+use pq_list::{RoomList, crosses_threads};
 use pq_match::Seg;
 use pq_rules::Rules;
 use std::marker::Model;
@@ -38,6 +38,7 @@ impl<'r> Worked<'r> {
         ensures ticket { result.ticket ≡ ticket }
         ensures input { result.input ≡ input.items }
         ensures rules { result.rules ≡ rules.entry.now }
+        ensures oracle { Ora result.rules result.input result.answer }
     {
         let mut seg = seg;
         let outcome = improve(rules, &mut seg);
@@ -74,14 +75,16 @@ impl<'r> Worked<'r> {
 
     /// Whether there was a redex.
     pub fn improved(&self) -> bool
-        ensures { result ≡ self.now.answer.improved }
+        ensures improved { result ≡ self.now.answer.improved }
+        ensures oracle { Ora self.now.rules self.now.input self.now.answer }
     {
         self.outcome.improved
     }
 
     /// By how many eighths of a whole turn the input turns more than the output, from 0 to 7.
     pub fn phase(&self) -> u8
-        ensures { result ≡ self.now.answer.phase }
+        ensures phase { result ≡ self.now.answer.phase }
+        ensures oracle { Ora self.now.rules self.now.input self.now.answer }
     {
         self.outcome.phase
     }
@@ -89,3 +92,9 @@ impl<'r> Worked<'r> {
 
 /// A list of segments that were worked.
 pub type WorkedList<'r> = RoomList<Worked<'r>>;
+
+// Worked segments and their lists cross threads.
+fn worked_segments_cross_threads() {
+    crosses_threads::<Worked<'_>>();
+    crosses_threads::<WorkedList<'_>>();
+}

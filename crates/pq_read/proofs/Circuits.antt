@@ -2,13 +2,12 @@
 use Rattle.std.proofs.Common.{◌≡◌, ℕ, zero, suc, ◌+◌, ◌<◌, ◌≤◌, Bool, true, false, not, ◌&&◌, ◌||◌, eqb, cond, nat_lt, List, [], ◌∷◌, ◌++◌, Option, Some, None, Result, Ok, Err, if◌then◌else◌, refl, sym, ap, ◌∙◌, subst, arith, inl, inr}
 use Rattle.std.specs.List.{AllByRecursion, list_any}
 use Rattle.std.proofs.lemmas.Bool.{false≢true, cases_lt}
-use borrow.Author.Tests.{eqb-true, eqb-false, eq-eqb, ltb-true}
+use borrow.Author.Tests.{eqb-true, eqb-false, ltb-true}
 use Rattle.pq_lex.specs.declared.token.Form.TheVariants.{Word, Comma, LeftBracket, RightBracket}
 use Rattle.pq_lex.specs.Token.{TokenView}
-use Rattle.pq_gate.specs.declared.gate.Gate.{Gate}
 use Rattle.pq_gate.specs.Circuit.{IsOnWires, IsCircuit}
 use Rattle.pq_text.specs.Program.{RegisterView, places_of}
-use Rattle.pq_read.specs.declared.refusal.Kind.TheVariants.{Syntax, IndexOutOfRange, SameQubit, SizeMismatch}
+use Rattle.pq_read.specs.declared.refusal.Kind.TheVariants.{Syntax, IndexOutOfRange}
 use Rattle.pq_read.specs.declared.refusal.Refusal.{Refusal}
 use Rattle.pq_read.specs.declared.argument.Span.{Span}
 use Rattle.pq_read.specs.declared.argument.Argument.{Argument}

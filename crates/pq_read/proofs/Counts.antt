@@ -25,6 +25,15 @@ unfolding gates_of
 length_gates word arguments each h =
     length-each_below (instances arguments) (instance word arguments) each (λ k. h (nth_place arguments 0 k) (nth_place arguments 1 k) (nth_place arguments 2 k))
 
+none_there : {A : Type 0} (xs : List A) → length xs ≡ 0 → xs ≡ []
+none_there [] h = refl
+none_there (x ∷ xs) h = absurd (omega arith)
+
+-- an expansion without gates has none in all instances together
+pub no_gates : (word : GateWord) (arguments : List Argument) (each : ℕ) → ((a b c : ℕ) → length (expansion word a b c) ≡ each) → each ≡ 0 → gates_of word arguments ≡ []
+no_gates word arguments each h none =
+    none_there (gates_of word arguments) (length_gates word arguments each h ∙ (ap (λ n. instances arguments * n) none ∙ (omega arith)))
+
 pub entries_of-append : (xs ys : List TailView) → entries_of (xs ++ ys) ≡ entries_of xs + entries_of ys
 entries_of-append [] ys = omega arith
 entries_of-append (Barrier wires ∷ xs) ys = let h : entries_of (xs ++ ys) ≡ entries_of xs + entries_of ys = entries_of-append xs ys in omega arith

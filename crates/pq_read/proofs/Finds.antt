@@ -1,5 +1,5 @@
--- Looking a register up, one after another.
-use Rattle.std.proofs.Common.{◌≡◌, ℕ, ◌+◌, ◌<◌, ◌≤◌, true, false, cond, List, [], ◌∷◌, ◌++◌, length, drop, get_or, map, bytes_eq, Option, Some, refl, sym, ap, ◌∙◌, subst, arith, add-one, drop-cons}
+-- Looking a register up.
+use Rattle.std.proofs.Common.{◌≡◌, ℕ, ◌+◌, ◌≤◌, true, false, cond, List, [], ◌∷◌, ◌++◌, map, bytes_eq, Option, Some, None, String, IfSome, refl, sym, ap, ◌∙◌, subst, arith}
 use Rattle.std.specs.List.{AllByRecursion}
 use Rattle.pq_text.specs.Program.{RegisterView, places_of}
 use Rattle.pq_read.specs.declared.argument.Span.{Span}
@@ -9,26 +9,12 @@ use Rattle.pq_read.specs.Registers.{IsKept, AreRegisters, IsSpan}
 use Rattle.pq_read.specs.Words.{is_name}
 use Rattle.pq_read.proofs.Counts.{places_of-append}
 use Rattle.std.proofs.lemmas.Slice.Eq.{bytes_eq-Decides}
-use Rattle.std.proofs.lemmas.List.{get_or-map, length-map, map_push}
-
--- the registers from the place i on begin with that one
-pub from_here : (regs : List RegisterView) (i : ℕ) (d : RegisterView) → i < length regs → drop i regs ≡ get_or regs i d ∷ drop (i + 1) regs
-from_here regs i d h = rw add-one (drop-cons regs i d h)
-
-pub found_here : (regs : List RegisterView) (i first : ℕ) (name : List ℕ) (r : RegisterView) (total : Option Span) → drop i regs ≡ r ∷ drop (i + 1) regs
-    → bytes_eq r.name name ≡ true → span_from first (drop i regs) name ≡ total → Some (record { first = first; size = r.size }) ≡ total
-found_here regs i first name r total e is so_far =
-    sym (ap (λ rs. span_from first rs name) e ∙ ap (λ b. cond b (Some (record { first = first; size = r.size })) (span_from (first + r.size) (drop (i + 1) regs) name)) is) ∙ so_far
-
-pub found_later : (regs : List RegisterView) (i first : ℕ) (name : List ℕ) (r : RegisterView) (total : Option Span) → drop i regs ≡ r ∷ drop (i + 1) regs
-    → bytes_eq r.name name ≡ false → span_from first (drop i regs) name ≡ total → span_from (first + r.size) (drop (i + 1) regs) name ≡ total
-found_later regs i first name r total e is so_far =
-    sym (ap (λ rs. span_from first rs name) e ∙ ap (λ b. cond b (Some (record { first = first; size = r.size })) (span_from (first + r.size) (drop (i + 1) regs) name)) is) ∙ so_far
-
-pub places_here : (regs : List RegisterView) (i first : ℕ) (r : RegisterView) → drop i regs ≡ r ∷ drop (i + 1) regs
-    → first + places_of (drop i regs) ≡ places_of regs → (first + r.size) + places_of (drop (i + 1) regs) ≡ places_of regs
-places_here regs i first r e so_far =
-    let h : places_of (drop i regs) ≡ r.size + places_of (drop (i + 1) regs) = ap places_of e in omega arith
+use Rattle.std.specs.BTreeMap.{BTreeMap, get_by_text}
+use Rattle.std.specs.Map.{update}
+use Rattle.std.specs.Str.{IsUtf8}
+use Rattle.pq_read.specs.Spans.{AreSpans}
+use Rattle.pq_read.proofs.Names.{name_is_ascii}
+use Rattle.std.proofs.lemmas.List.{map_push}
 
 -- what is known of a register that is found
 pub record IsFound (span : Span) (first : ℕ) (regs : List RegisterView) (name : List ℕ) : Type 0 where
@@ -55,14 +41,6 @@ is_span regs total name s are h =
     let w : s.first + s.size ≤ 0 + places_of regs = f.within in
     record { named = f.named; some = f.some; within = omega arith }
 
--- the register at a place of the list
-pub item_here : (items : List Register) (i : ℕ) (r : Register) → i < length items → r ≡ get_or items i r
-    → drop i (map register_view items) ≡ register_view r ∷ drop (i + 1) (map register_view items)
-item_here items i r h is =
-    let n : i < length (map register_view items) = rw length-map h in
-    from_here (map register_view items) i (register_view r) n
-    ∙ ap (λ x. x ∷ drop (i + 1) (map register_view items)) (get_or-map register_view items i r (register_view r) h ∙ ap register_view (sym is))
-
 each_push : (P : RegisterView → Type 0) (xs : List RegisterView) (y : RegisterView) → AllByRecursion P xs → P y → AllByRecursion P (xs ++ y ∷ [])
 each_push P [] y h p = (p, tt)
 each_push P (x ∷ xs) y h p = (h.0, each_push P xs y h.1 p)
@@ -74,3 +52,63 @@ regs_with items new r total old is kept room =
     let n : places_of (map register_view items ++ register_view r ∷ []) ≡ places_of (map register_view items) + (r.size + 0) = places_of-append (map register_view items) (register_view r ∷ []) in
     let c : total ≡ places_of (map register_view items) = old.counted in
     rw e (record { counted = omega arith; within = room; each = each_push IsKept (map register_view items) (register_view r) old.each kept })
+
+is_none : (found : Option Span) → ((s : Span) → found ≡ Some s → ⊥) → found ≡ None
+is_none None h = refl
+is_none (Some s) h = absurd (h s refl)
+
+-- what is no text is no name, and no register has it
+pub none_found : (regs : List RegisterView) (total : ℕ) (name : List ℕ) → AreRegisters total regs → (IsUtf8 name → ⊥) → span_from 0 regs name ≡ None
+none_found regs total name are bad = is_none (span_from 0 regs name) (λ s h. bad (name_is_ascii name (is_span regs total name s are h).named))
+
+-- the span of a name beside one register more
+or_last : Option Span → Option Span → Option Span
+or_last None other = other
+or_last (Some s) other = Some s
+
+span_push : (regs : List RegisterView) (r : RegisterView) (first : ℕ) (name : List ℕ) (s : Span) → s.first ≡ first + places_of regs → s.size ≡ r.size
+    → span_from first (regs ++ r ∷ []) name ≡ or_last (span_from first regs name) (cond (bytes_eq r.name name) (Some s) None)
+unfolding or_last
+span_push [] r first name s at size =
+    let at : first ≡ s.first = omega arith in
+    λ i. cond (bytes_eq r.name name) (Some (record { first = at i; size = sym size i })) None
+span_push (q ∷ qs) r first name s at size =
+    elim (bytes_eq q.name name) as (λ b. cond b (Some (record { first = first; size = q.size })) (span_from (first + q.size) (qs ++ r ∷ []) name)
+    ≡ or_last (cond b (Some (record { first = first; size = q.size })) (span_from (first + q.size) qs name)) (cond (bytes_eq r.name name) (Some s) None)) [
+      | true ↦ refl
+      | false ↦ span_push qs r (first + q.size) name s (omega arith) size
+    ]
+
+or_none : (o : Option Span) → o ≡ or_last o None
+unfolding or_last
+or_none None = refl
+or_none (Some t) = refl
+
+-- the map after one register more
+pub spans_with : {Y : Type 0} (items new : List Register) (r : Register) (total : ℕ) (old now : BTreeMap (String Y) Span) (name : List ℕ) (s : Span)
+    → AreRegisters total (map register_view items) → AreSpans (map register_view items) old → new ≡ items ++ r ∷ [] → name ≡ r.name → s ≡ record { first = total; size = r.size }
+    → span_from 0 (map register_view items) r.name ≡ None → ((cs : List ℕ) → get_by_text now cs ≡ update bytes_eq (get_by_text old) name (Some s) cs)
+    → AreSpans (map register_view new) now
+unfolding or_last
+spans_with items new r total old now name s are spans is named at free updates = record {
+  found = λ cs.
+      let regs = map register_view items in
+      let e : map register_view new ≡ regs ++ register_view r ∷ [] = ap (map register_view) is ∙ map_push register_view items r in
+      let c : total ≡ places_of regs = are.counted in
+      let first : s.first ≡ 0 + places_of regs = ap (λ (t : Span). t.first) at ∙ (omega arith) in
+      let pushed = span_push regs (register_view r) 0 cs s first (ap (λ (t : Span). t.size) at) in
+      updates cs ∙ (ap (λ n. cond (bytes_eq n cs) (Some s) (get_by_text old cs)) named ∙ (both cs ∙ (sym pushed ∙ ap (λ rs. span_from 0 rs cs) (sym e))));
+}
+  where
+    both : (cs : List ℕ) → cond (bytes_eq r.name cs) (Some s) (get_by_text old cs) ≡ or_last (span_from 0 (map register_view items) cs) (cond (bytes_eq r.name cs) (Some s) None)
+    both cs =
+        elim (bytes_eq r.name cs) as (λ b. bytes_eq r.name cs ≡ b → cond b (Some s) (get_by_text old cs) ≡ or_last (span_from 0 (map register_view items) cs) (cond b (Some s) None)) [
+          | true ↦ λ same. sym (ap (λ o. or_last o (Some s)) (ap (span_from 0 (map register_view items)) (sym ((bytes_eq-Decides r.name cs).0 same)) ∙ free))
+          | false ↦ λ other. spans.found cs ∙ or_none (span_from 0 (map register_view items) cs)
+        ] refl
+
+-- the span that is found by a name
+pub told_span : (regs known : List RegisterView) (total : ℕ) (name : List ℕ) (found : Option Span) → AreRegisters total regs → regs ≡ known → found ≡ span_from 0 known name
+    → IfSome found (λ s. IsSpan s name)
+told_span regs known total name None are same e = tt
+told_span regs known total name (Some s) are same e = is_span regs total name s are (ap (λ rs. span_from 0 rs name) same ∙ sym e)

@@ -1,41 +1,28 @@
 -- What is read is well formed.
-use Rattle.std.proofs.Common.{◌≡◌, ℕ, zero, suc, ◌+◌, ◌<◌, ◌≤◌, Bool, true, false, not, ◌&&◌, ◌||◌, eqb, ltb, cond, List, [], ◌∷◌, ◌++◌, length, get_or, All, AllPairs, Option, Some, None, Result, Ok, Err, bytes_eq, refl, sym, ap, ◌∙◌, subst, arith, length-append, inl, inr}
-use Rattle.std.specs.List.{AllByRecursion, list_any}
+use Rattle.std.proofs.Common.{◌≡◌, ℕ, zero, suc, ◌+◌, ◌<◌, ◌≤◌, Bool, true, false, not, cond, List, [], ◌∷◌, ◌++◌, length, All, AllPairs, Some, Result, Ok, Err, bytes_eq, refl, sym, ◌∙◌, subst, arith}
+use Rattle.std.specs.List.{AllByRecursion}
 use Rattle.std.specs.Option.{is_some}
-use Rattle.std.proofs.lemmas.Bool.{false≢true, cases_lt}
+use Rattle.std.proofs.lemmas.Bool.{false≢true}
 use Rattle.std.proofs.lemmas.Slice.Eq.{bytes_eq-Decides}
-use borrow.Author.Tests.{eqb-true, eqb-false, ltb-false}
-use Rattle.pq_lex.specs.declared.token.Form.TheVariants.{Word, Semicolon, Comma, LeftBracket, RightBracket, Arrow}
+use borrow.Author.Tests.{eqb-false, ltb-false}
+use Rattle.pq_lex.specs.declared.token.Form.TheVariants.{Word, Semicolon, LeftBracket, RightBracket}
 use Rattle.pq_lex.specs.Token.{TokenView}
-use Rattle.pq_lex.specs.Lex.{tokens_of}
 use Rattle.pq_gate.specs.declared.gate.Gate.{Gate}
 use Rattle.pq_gate.specs.declared.gate.Gate.TheVariants as gates
 use Rattle.pq_gate.specs.Circuit.{IsOnWires, IsCircuit}
-use Rattle.pq_text.specs.Name.{IsRegisterName}
 use Rattle.pq_text.specs.Program.{RegisterView, TailView, Barrier, Measure, ProgramView, places_of, entries_of}
-use Rattle.pq_text.specs.WellFormed.{IsRegister, IsBarrier, IsMeasurement, IsTailEntry, WellFormed}
+use Rattle.pq_text.specs.WellFormed.{IsRegister, IsMeasurement, IsTailEntry, WellFormed}
 use Rattle.pq_read.specs.declared.refusal.Kind.{Kind}
 use Rattle.pq_read.specs.declared.refusal.Refusal.{Refusal}
-use Rattle.pq_read.specs.declared.program.Options.{Options}
 use Rattle.pq_read.specs.declared.argument.Span.{Span}
-use Rattle.pq_read.specs.declared.argument.Argument.{Argument}
-use Rattle.pq_read.specs.declared.word.GateWord.{GateWord}
-use Rattle.pq_read.specs.declared.word.FirstWord.{FirstWord}
-use Rattle.pq_read.specs.declared.word.FirstWord.TheVariants as words
-use Rattle.pq_read.specs.Lists.{each_below}
-use Rattle.pq_read.specs.Faults.{◌>>=◌, is_form, head, demanded, integer_at, value_of}
-use Rattle.pq_read.specs.Words.{is_name, more_arguments, first_word}
-use Rattle.pq_read.specs.Environment.{Env, start, span_from}
+use Rattle.pq_read.specs.Faults.{demanded, integer_at, value_of}
+use Rattle.pq_read.specs.Words.{is_name}
+use Rattle.pq_read.specs.Environment.{start, span_from}
 use Rattle.pq_read.specs.Registers.{IsKept}
-use Rattle.pq_read.specs.Arguments.{argument_at, arguments_at}
-use Rattle.pq_read.specs.Expansion.{gates_of}
-use Rattle.pq_read.specs.After.{header_at, include_at, is_taken, new_name, new_size, declared_at, allowed, within_gates, gate_at, adjoined, adjoined_below, argument_tokens, barrier_wires, within_tail, barrier_at, measurements, paired, measure_at, put, statement_by, statement_at, piece_at, after}
-use Rattle.pq_read.specs.Pieces.{Front, cut}
-use Rattle.pq_read.specs.Reads.{is_done, read_pieces, read_tokens, read_of, Reads}
+use Rattle.pq_read.specs.After.{new_name, new_size, declared_at}
 use Rattle.pq_read.proofs.Barriers.{bind_ok, ok_same}
 use Rattle.pq_read.proofs.Names.{name_is_lawful, lawful_is_name}
-use Rattle.pq_read.proofs.Counts.{entries_of-append, places_of-append}
-use Rattle.pq_read.proofs.Circuits.{all_append, all_below, chosen, neither, IsWhere, argument_where, gates_on}
+use Rattle.pq_read.proofs.Circuits.{all_append, neither}
 
 -- each item and each later one
 abbrev pub Apart : {A : Type 0} → (A → A → Type 0) → List A → Type 0

@@ -1,5 +1,5 @@
 -- Each statement keeps what is read well formed.
-use Rattle.std.proofs.Common.{◌≡◌, ◌⊎◌, ℕ, zero, suc, ◌+◌, ◌<◌, ◌≤◌, Bool, true, false, not, ◌&&◌, ◌||◌, eqb, ltb, cond, List, [], ◌∷◌, ◌++◌, length, Result, Ok, Err, refl, sym, ap, ◌∙◌, subst, arith, length-append, inl, inr}
+use Rattle.std.proofs.Common.{◌≡◌, ◌⊎◌, ℕ, zero, suc, ◌+◌, ◌<◌, ◌≤◌, Bool, true, false, eqb, cond, List, [], ◌∷◌, ◌++◌, length, Result, Ok, Err, refl, sym, subst, arith, length-append, inl, inr}
 use Rattle.std.specs.List.{AllByRecursion, list_any}
 use Rattle.std.proofs.lemmas.Bool.{false≢true}
 use borrow.Author.Tests.{eqb-true, eqb-false, ltb-false}
@@ -13,7 +13,6 @@ use Rattle.pq_text.specs.WellFormed.{IsRegister, WellFormed}
 use Rattle.pq_read.specs.declared.refusal.Kind.TheVariants.{TooManyQubits, TooManyBits}
 use Rattle.pq_read.specs.declared.refusal.Refusal.{Refusal}
 use Rattle.pq_read.specs.declared.program.Options.{Options}
-use Rattle.pq_read.specs.declared.argument.Argument.{Argument}
 use Rattle.pq_read.specs.declared.word.GateWord.{GateWord}
 use Rattle.pq_read.specs.declared.word.FirstWord.{FirstWord}
 use Rattle.pq_read.specs.declared.word.FirstWord.TheVariants as words
@@ -30,7 +29,7 @@ use Rattle.pq_read.specs.Reads.{is_done, read_pieces, read_tokens, read_of, Read
 use Rattle.pq_read.proofs.Barriers.{bind_ok, ok_same}
 use Rattle.pq_read.proofs.Counts.{entries_of-append, places_of-append}
 use Rattle.pq_read.proofs.Circuits.{all_append, all_below, neither, IsWhere, argument_where, gates_on}
-use Rattle.pq_read.proofs.Formed.{Apart, all_map, apart_push, IsWireList, IsEntry, IsGood, good_formed, good_start, kept_of, on_more, entry_more, IsJoining, one_told, declared_told}
+use Rattle.pq_read.proofs.Formed.{all_map, apart_push, IsWireList, IsEntry, IsGood, good_formed, good_start, kept_of, on_more, entry_more, IsJoining, one_told, declared_told}
 
 all_both : {A : Type 0} (P Q R : A → Type 0) (xs : List A) → ((x : A) → P x → Q x → R x) → AllByRecursion P xs → AllByRecursion Q xs → AllByRecursion R xs
 all_both P Q R [] f p q = tt

@@ -6,6 +6,7 @@ pub mod Meets
 pub mod Counts
 pub mod Sizes
 pub mod Barriers
+pub mod Marks
 pub mod Pieces
 pub mod Answers
 pub mod Circuits

@@ -3,6 +3,7 @@ use Rattle.std.specs.Prelude.{ℕ, zero, suc, ◌+◌, Bool, true, not, ◌&&◌
 use Rattle.std.specs.List.{list_any}
 use Rattle.pq_lex.specs.declared.token.Form.TheVariants.{Word, Number, Quoted, Semicolon, Comma, LeftBracket, RightBracket, Arrow, Malformed}
 use Rattle.pq_lex.specs.Token.{TokenView}
+use Rattle.pq_limits.specs.declared.TheConstants.{MAX_NAME, MAX_PLACES, MAX_GATES, MAX_ENTRIES}
 use Rattle.pq_gate.specs.declared.gate.Gate.{Gate}
 use Rattle.pq_text.specs.Program.{RegisterView, TailView, ProgramView, places_of, entries_of}
 use Rattle.pq_text.specs.Program as view
@@ -20,15 +21,6 @@ use Rattle.pq_read.specs.Words.{is_name, more_arguments, first_word}
 use Rattle.pq_read.specs.Environment.{Env, span_from, is_measurement}
 use Rattle.pq_read.specs.Arguments.{argument_at, arguments_at}
 use Rattle.pq_read.specs.Expansion.{gates_of}
-
-abbrev pub max_places : ℕ
-max_places = 4096
-
-abbrev pub max_gates : ℕ
-max_gates = 1048576
-
-abbrev pub max_entries : ℕ
-max_entries = 1048576
 
 -- `OPENQASM 2.0;`
 abbrev pub begins_header : TokenView → Bool
@@ -61,15 +53,15 @@ is_taken qregs cregs name = is_some (span_from 0 qregs name) || is_some (span_fr
 abbrev pub new_name : List RegisterView → List RegisterView → TokenView → Result (List ℕ) Refusal
 new_name qregs cregs t =
     if not (is_name t.bytes) then Err (refused Syntax t)
-    else if nat_lt 64 (length t.bytes) then Err (refused NameTooLong t)
+    else if nat_lt MAX_NAME (length t.bytes) then Err (refused NameTooLong t)
     else if is_taken qregs cregs t.bytes then Err (refused RepeatedName t)
     else Ok t.bytes
 
--- the size of a new register beside those of its kind, of which there may be 4,096 places
+-- the size of a new register beside those of its kind, of which there may be so many places
 abbrev pub new_size : Kind → List RegisterView → TokenView → Result ℕ Refusal
 new_size too_many regs t =
     if value_of t == 0 then Err (refused BadSize t)
-    else if nat_lt max_places (places_of regs + value_of t) then Err (refused too_many t)
+    else if nat_lt MAX_PLACES (places_of regs + value_of t) then Err (refused too_many t)
     else Ok (value_of t)
 
 -- `NAME[SIZE];` after `qreg` or `creg`: the register beside those of all kinds, and how many of its kind
@@ -93,7 +85,7 @@ allowed options tail t =
     else Ok tt
 
 abbrev pub within_gates : List Gate → List Gate → TokenView → Result (Unit {0}) Refusal
-within_gates old new e = if nat_lt max_gates (length old + length new) then Err (refused TooManyGates e) else Ok tt
+within_gates old new e = if nat_lt MAX_GATES (length old + length new) then Err (refused TooManyGates e) else Ok tt
 
 -- the arguments of a known gate and the `;`: the gates with those of the statement
 unfoldable pub gate_at : GateWord → List RegisterView → List Gate → List TokenView → Reading (List Gate)
@@ -125,7 +117,7 @@ barrier_wires regs wires zero (t ∷ ts) = do
   if is_form Comma (head a.1) then barrier_wires regs (adjoined_below wires a.0.first a.0.count) (argument_tokens a.0) ts else Ok (adjoined_below wires a.0.first a.0.count, a.1)
 
 abbrev pub within_tail : List TailView → ℕ → TokenView → Result (Unit {0}) Refusal
-within_tail tail more e = if nat_lt max_entries (entries_of tail + more) then Err (refused TailTooLong e) else Ok tt
+within_tail tail more e = if nat_lt MAX_ENTRIES (entries_of tail + more) then Err (refused TailTooLong e) else Ok tt
 
 -- the arguments of a barrier and the `;`: the tail with it
 unfoldable pub barrier_at : List RegisterView → List TailView → List TokenView → Reading (List TailView)

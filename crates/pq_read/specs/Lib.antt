@@ -7,8 +7,10 @@ pub mod Words
 pub mod Environment
 pub mod Arguments
 pub mod Registers
+pub mod Spans
 pub mod Listed
 pub mod Tails
+pub mod Marks
 pub mod Readers
 pub mod Expansion
 pub mod After

@@ -1,4 +1,4 @@
-ghost use Rattle.std.specs.Prelude.{◌≡◌, ◌≤◌, ◌+◌, [], ◌∷◌, ◌++◌, true, min, OnOk, IfOk};
+ghost use Rattle.std.specs.Prelude.{◌≡◌, ◌≤◌, ◌+◌, [], ◌∷◌, ◌++◌, true, false, min, OnOk, IfOk};
 ghost use Rattle.pq_lex.specs.Token.{seen};
 ghost use Rattle.pq_lex.specs.Lex.{tokens};
 ghost use Rattle.pq_text.specs.Program.{places_of};
@@ -13,9 +13,9 @@ use crate::name::{Name, name_of};
 use crate::program::Register;
 use crate::refusal::{Kind, ReadError};
 use crate::registers::{Registers, is_name};
-use crate::token::{GREAT, demand, demand_end, integer, refused};
-use pq_lex::{Form, Lexer, Token};
-use pq_text::{MAX_NAME, MAX_PLACES};
+use crate::token::{demand_end, demand_mark, demand_word, integer, refused};
+use pq_lex::{Form, GREAT, Lexer, Token};
+use pq_limits::{MAX_NAME, MAX_PLACES};
 use std::alloc::Global;
 
 // Whether a register of either kind has this name.
@@ -29,6 +29,7 @@ fn has_register(quantum: &Registers, classical: &Registers, name: &[u8]) -> bool
 fn check_name(quantum: &Registers, classical: &Registers, token: &Token) -> Result<(), ReadError>
     ensures read { Gives (λ _. token.now.bytes.now) result (new_name quantum.now classical.now (seen token.now)) }
     ensures named { OnOk result (is_name_of token.now.bytes.now ≡ true) }
+    ensures free { OnOk result (is_taken quantum.now classical.now token.now.bytes.now ≡ false) }
 {
     if !is_name(token.bytes) {
         return Err(refused(Kind::Syntax, token));
@@ -79,13 +80,14 @@ pub fn read_declaration(
         (declared_at too_many quantum.now classical.now own.now (left lexer.old)) }
     ensures later { OnOk result (tokens lexer.new ≡ later lexer.old) }
     ensures told { IfOk result (λ r. IsNew own.now (register_view r)) }
+    ensures free { IfOk result (λ r. is_taken quantum.now classical.now (register_view r).name ≡ false) }
 {
-    let word = demand(lexer, Form::Word)?;
+    let word = demand_word(lexer)?;
     check_name(quantum, classical, &word)?;
-    demand(lexer, Form::LeftBracket)?;
+    demand_mark(lexer, Form::LeftBracket)?;
     let (token, size) = integer(lexer)?;
     check_size(too_many, own, &token, size)?;
-    demand(lexer, Form::RightBracket)?;
+    demand_mark(lexer, Form::RightBracket)?;
     demand_end(lexer)?;
     let name = name_of(alloc, word.bytes)?;
     Ok(Register { name, size })

@@ -12,12 +12,12 @@ ghost use Rattle.pq_read.specs.Listed.{listed, AreArguments};
 use crate::argument::{Argument, check_second, check_third, read_argument};
 use crate::refusal::{Kind, ReadError};
 use crate::registers::Registers;
-use crate::token::{demand, demand_end, refused};
+use crate::token::{demand_end, demand_mark, refused};
 use crate::word::GateWord;
 use pq_gate::{Eighths, Gate};
 use pq_lex::{Form, Lexer};
-use pq_text::MAX_GATES;
-use std::alloc::AllocError;
+use pq_limits::{MAX_GATES, MAX_PLACES};
+use pq_list::OutOfMemory;
 
 /// The arguments of a gate.
 #[derive(Clone, Copy)]
@@ -44,7 +44,7 @@ fn two_arguments(lexer: &mut Lexer, registers: &Registers) -> Result<Arguments, 
     ensures told { IfOk result AreArguments }
 {
     let first = read_argument(lexer, registers)?;
-    demand(lexer, Form::Comma)?;
+    demand_mark(lexer, Form::Comma)?;
     let second = read_argument(lexer, registers)?;
     check_second(&first, &second)?;
     Ok(Arguments::Two(first, second))
@@ -57,10 +57,10 @@ fn three_arguments(lexer: &mut Lexer, registers: &Registers) -> Result<Arguments
     ensures told { IfOk result AreArguments }
 {
     let first = read_argument(lexer, registers)?;
-    demand(lexer, Form::Comma)?;
+    demand_mark(lexer, Form::Comma)?;
     let second = read_argument(lexer, registers)?;
     check_second(&first, &second)?;
-    demand(lexer, Form::Comma)?;
+    demand_mark(lexer, Form::Comma)?;
     let third = read_argument(lexer, registers)?;
     check_third(&first, &second, &third)?;
     Ok(Arguments::Three(first, second, third))
@@ -71,7 +71,7 @@ impl Arguments {
     fn instances(&self) -> u32
         requires { AreArguments self.now }
         ensures count { result ≡ instances (listed self.now) }
-        ensures within { result ≤ 4096 }
+        ensures within { result ≤ MAX_PLACES }
     {
         match self {
             Arguments::One(a) => a.count,
@@ -91,7 +91,7 @@ impl Arguments {
     // The places of the arguments in the instance k, and 0 for those that aren't there.
     fn places(&self, k: u32) -> (u32, u32, u32)
         requires kept { AreArguments self.now }
-        requires instance { k < 4096 }
+        requires instance { k < MAX_PLACES }
         ensures first { result.0 ≡ nth_place (listed self.now) 0 k }
         ensures second { result.1 ≡ nth_place (listed self.now) 1 k }
         ensures third { result.2 ≡ nth_place (listed self.now) 2 k }
@@ -111,7 +111,7 @@ fn push_instance(
     a: u32,
     b: u32,
     c: u32,
-) -> Result<(), AllocError>
+) -> Result<(), OutOfMemory>
     ensures { OnOk result (gates.new.items ≡ gates.old.items ++ expansion word a b c) }
 {
     match word {
@@ -218,10 +218,13 @@ fn push_gates(
     gates: &mut Vec<Gate>,
     word: GateWord,
     arguments: &Arguments,
-) -> Result<(), AllocError>
+) -> Result<(), OutOfMemory>
     requires { AreArguments arguments.now }
     ensures { OnOk result (gates.new.items ≡ gates.old.items ++ gates_of word (listed arguments.now)) }
 {
+    if gates_each(word) == 0 {
+        return Ok(());
+    }
     for k in 0..arguments.instances() {
         let (a, b, c) = arguments.places(k);
         push_instance(gates, word, a, b, c)?;

@@ -3,6 +3,7 @@
 #![tactic(auto)]
 
 mod argument;
+mod barrier_wires;
 mod declaration;
 mod gate;
 mod header;

@@ -1,7 +1,8 @@
 ghost use Rattle.std.specs.Prelude.{◌≡◌, true, IfOk};
 ghost use Rattle.pq_read.specs.Words.{is_name};
 
-use std::alloc::{AllocError, Global};
+use pq_list::OutOfMemory;
+use std::alloc::Global;
 use std::marker::Model;
 
 /// A name. Contracts see its bytes.
@@ -20,7 +21,7 @@ impl Model for Name {
 
 impl Name {
     /// The name with this text.
-    pub fn of(alloc: Global, text: &str) -> Result<Name, AllocError>
+    pub fn of(alloc: Global, text: &str) -> Result<Name, OutOfMemory>
         ensures { IfOk result (λ name. name ≡ text.now) }
     {
         let text = String::from_str(alloc, text)?;
@@ -36,7 +37,7 @@ impl Name {
 }
 
 /// The name with these bytes.
-pub fn name_of(alloc: Global, bytes: &[u8]) -> Result<Name, AllocError>
+pub fn name_of(alloc: Global, bytes: &[u8]) -> Result<Name, OutOfMemory>
     requires { is_name bytes.now ≡ true }
     ensures { IfOk result (λ name. name ≡ bytes.now) }
 {

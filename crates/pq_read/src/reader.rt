@@ -17,12 +17,12 @@ use crate::refusal::{Kind, ReadError};
 use crate::registers::Registers;
 use crate::tail::Tail;
 use crate::tail_statement::{read_barrier, read_measure};
-use crate::token::{demand, is_next, refused};
+use crate::token::{demand_word, refused};
 use crate::word::{FirstWord, GateWord, read_first_word};
 use pq_gate::{Gate, GateList};
-use pq_lex::{Form, Lexer, MAX_TEXT, Token};
+use pq_lex::{Lexer, Token};
+use pq_limits::{MAX_GATES, MAX_INPUT};
 use pq_list::RoomList;
-use pq_text::MAX_GATES;
 use std::alloc::Global;
 
 /// What has been read of a text.
@@ -123,7 +123,7 @@ impl Reader {
                     &self.classical,
                     &self.quantum,
                 )?;
-                self.quantum.push(register)?;
+                self.quantum.push(alloc, register)?;
                 Ok(())
             }
             FirstWord::Creg => {
@@ -135,7 +135,7 @@ impl Reader {
                     &self.classical,
                     &self.classical,
                 )?;
-                self.classical.push(register)?;
+                self.classical.push(alloc, register)?;
                 Ok(())
             }
             FirstWord::Barrier => {
@@ -165,7 +165,7 @@ impl Reader {
         ensures later { OnOk result (tokens lexer.new ≡ later lexer.old) }
         ensures within { OnOk result (length self.new.gates.items ≤ MAX_GATES) }
     {
-        let token = demand(lexer, Form::Word)?;
+        let token = demand_word(lexer)?;
         let first = read_first_word(self.included, token.bytes);
         self.statement_by(alloc, lexer, options, &token, first)
     }
@@ -194,13 +194,13 @@ impl Reader {
 }
 
 // Whether nothing is left: the header was read, and the end of the text stands next.
-#[tactic(auto, using(crate::proofs::Pieces::head_through_all))]
+#[tactic(auto, using(crate::proofs::Pieces::done_told))]
 fn is_done(reader: &Reader, lexer: &mut Lexer) -> bool
     ensures test { result ≡ is_done (env_of reader.now) (tokens lexer.new) }
     ensures same { tokens lexer.new ≡ tokens lexer.old }
     ensures last { result ≡ true → length (tokens lexer.new) ≡ 1 }
 {
-    let ended = is_next(lexer, Form::Missing);
+    let ended = lexer.is_at_end();
     reader.header && ended
 }
 
@@ -222,7 +222,7 @@ fn read_pieces(alloc: Global, lexer: &mut Lexer, options: Options) -> Result<Rea
 /// which is well formed. Where the text isn't accepted, the answer is its first fault. Want of memory may
 /// come at any moment before, and is then the answer.
 pub fn read_text(alloc: Global, text: &[u8], options: Options) -> Result<Program, ReadError>
-    requires { length text.now ≤ MAX_TEXT }
+    requires { length text.now ≤ MAX_INPUT }
     ensures read { IfOk result (λ p. Reads text.now options (view p)) }
     ensures well_formed { IfOk result (λ p. WellFormed (view p)) }
     ensures refused { IfErr result (IsRefusedFor text.now options) }

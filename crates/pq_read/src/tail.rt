@@ -10,8 +10,9 @@ use crate::refusal::{Kind, ReadError};
 use crate::token::refused;
 use pq_io::PlaceList;
 use pq_lex::Token;
-use pq_text::MAX_ENTRIES;
-use std::alloc::{AllocError, Global};
+use pq_limits::MAX_ENTRIES;
+use pq_list::OutOfMemory;
+use std::alloc::Global;
 use std::marker::Model;
 
 /// The barriers and the measurements after the gates. Contracts see the list of them.
@@ -81,7 +82,7 @@ impl Tail {
     }
 
     /// Appends a barrier over these wires.
-    pub fn push_barrier(&mut self, wires: Vec<u64>) -> Result<(), AllocError>
+    pub fn push_barrier(&mut self, wires: Vec<u64>) -> Result<(), OutOfMemory>
         requires { entries_of self.old + vec_len wires ≤ MAX_ENTRIES }
         ensures { OnOk result (self.new ≡ self.old ++ view.Barrier wires.items ∷ []) }
     {
@@ -96,7 +97,7 @@ impl Tail {
     }
 
     /// Appends a measurement of this wire into this bit.
-    pub fn push_measurement(&mut self, wire: u32, bit: u32) -> Result<(), AllocError>
+    pub fn push_measurement(&mut self, wire: u32, bit: u32) -> Result<(), OutOfMemory>
         requires { entries_of self.old + 1 ≤ MAX_ENTRIES }
         ensures { OnOk result (self.new ≡ self.old ++ view.Measure wire bit ∷ []) }
     {

@@ -1,18 +1,20 @@
 ghost use Rattle.std.specs.Prelude.{◌≡◌, ◌≤◌, ◌+◌, [], ◌∷◌, ◌++◌, length, OnOk, IfOk};
 ghost use Rattle.pq_lex.specs.Lex.{tokens};
 ghost use Rattle.pq_text.specs.Program.{entries_of};
-ghost use Rattle.pq_read.specs.After.{adjoined, adjoined_below, barrier_wires, barrier_at, measure_at, measurements, paired};
+ghost use Rattle.pq_read.specs.After.{barrier_wires, barrier_at, measure_at, measurements, paired};
 ghost use Rattle.pq_read.specs.Registers.{IsArgument};
 ghost use Rattle.pq_read.specs.Gives.{Gives, left, later};
 
 use crate::argument::{Argument, read_argument};
+use crate::barrier_wires::BarrierWires;
 use crate::refusal::{Kind, ReadError};
 use crate::registers::Registers;
 use crate::tail::Tail;
-use crate::token::{demand, demand_end, is_next, refused};
+use crate::token::{demand_arrow, demand_end, goes_over, refused};
 use pq_lex::{Form, Lexer};
-use pq_text::MAX_ENTRIES;
-use std::alloc::{AllocError, Global};
+use pq_limits::MAX_ENTRIES;
+use pq_list::OutOfMemory;
+use std::alloc::Global;
 
 // The bits of a measurement, which are as many as the qubits.
 fn check_pair(a: &Argument, b: &Argument) -> Result<(), ReadError>
@@ -25,7 +27,7 @@ fn check_pair(a: &Argument, b: &Argument) -> Result<(), ReadError>
 }
 
 // Appends the measurements of the places of one argument into those of another.
-fn push_measurements(tail: &mut Tail, a: &Argument, b: &Argument) -> Result<(), AllocError>
+fn push_measurements(tail: &mut Tail, a: &Argument, b: &Argument) -> Result<(), OutOfMemory>
     requires a { IsArgument a.now }
     requires b { IsArgument b.now }
     requires same { a.now.count ≡ b.now.count }
@@ -50,7 +52,7 @@ pub fn read_measure(
     ensures later { OnOk result (tokens lexer.new ≡ later lexer.old) }
 {
     let a = read_argument(lexer, quantum)?;
-    demand(lexer, Form::Arrow)?;
+    demand_arrow(lexer)?;
     let b = read_argument(lexer, classical)?;
     check_pair(&a, &b)?;
     let end = demand_end(lexer)?;
@@ -61,40 +63,18 @@ pub fn read_measure(
     Ok(())
 }
 
-// Appends a wire that isn't there yet.
-fn adjoin(wires: &mut Vec<u64>, wire: u64) -> Result<(), AllocError>
-    ensures { OnOk result (wires.new.items ≡ adjoined wires.old.items wire) }
-{
-    if !wires.contains(&wire) {
-        wires.push(wire)?;
-    }
-    Ok(())
-}
-
-// Appends the wires of an argument that aren't there yet.
-fn adjoin_argument(wires: &mut Vec<u64>, a: &Argument) -> Result<(), AllocError>
-    requires { IsArgument a.now }
-    ensures { OnOk result (wires.new.items ≡ adjoined_below wires.old.items a.now.first a.now.count) }
-{
-    for k in 0..a.count {
-        adjoin(wires, u64::from(a.first + k))?;
-    }
-    Ok(())
-}
-
 // The wires of the arguments of a barrier.
 fn read_wires(alloc: Global, lexer: &mut Lexer, quantum: &Registers) -> Result<Vec<u64>, ReadError>
     ensures read { Gives (λ wires. (wires.items, left lexer.new)) result (barrier_wires quantum.now [] 0 (left lexer.old)) }
     ensures later { OnOk result (later lexer.new ≡ later lexer.old) }
 {
-    let mut wires = Vec::new(alloc);
+    let mut wires = BarrierWires::new(alloc)?;
     loop {
         let a = read_argument(lexer, quantum)?;
-        adjoin_argument(&mut wires, &a)?;
-        if !is_next(lexer, Form::Comma) {
-            return Ok(wires);
+        wires.adjoin_argument(&a)?;
+        if !goes_over(lexer, Form::Comma) {
+            return Ok(wires.into_wires());
         }
-        demand(lexer, Form::Comma)?;
     }
 }
 

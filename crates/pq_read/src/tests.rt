@@ -1,11 +1,12 @@
 use crate::{Name, Options, ReadError, RegList, TailList, read_text};
-use pq_lex::MAX_TEXT;
-use std::alloc::{AllocError, Global};
+use pq_limits::MAX_INPUT;
+use pq_list::OutOfMemory;
+use std::alloc::Global;
 
 // What a text gives: the number of the kind, the line and the column of a refusal, or 0, the number
 // of gates and the number of tail items of a program.
 fn told(alloc: Global, text: &[u8], drop_barriers: bool) -> Option<(u8, u32, u32)> {
-    if text.len() > MAX_TEXT {
+    if text.len() as u64 > MAX_INPUT {
         return None;
     }
     match read_text(alloc, text, Options { drop_barriers }) {
@@ -27,7 +28,7 @@ fn told_lines(
     first: &str,
     line: &str,
     count: u32,
-) -> Result<Option<(u8, u32, u32)>, AllocError> {
+) -> Result<Option<(u8, u32, u32)>, OutOfMemory> {
     let mut text = Vec::new(alloc);
     text.extend_from_slice(b"OPENQASM 2.0;\ninclude \"qelib1.inc\";\n")?;
     text.extend_from_slice(first.as_bytes())?;
@@ -42,7 +43,7 @@ fn told_after(
     alloc: Global,
     lines: &str,
     drop_barriers: bool,
-) -> Result<Option<(u8, u32, u32)>, AllocError> {
+) -> Result<Option<(u8, u32, u32)>, OutOfMemory> {
     let mut text = Vec::new(alloc);
     text.extend_from_slice(b"OPENQASM 2.0;\ninclude \"qelib1.inc\";\n")?;
     text.extend_from_slice(lines.as_bytes())?;
@@ -84,7 +85,7 @@ fn a_text_by_hand_and_its_cuts(rt: HostRuntime) {
 }
 
 #[test]
-fn faults_stand_at_their_tokens(rt: HostRuntime) -> Result<(), AllocError> {
+fn faults_stand_at_their_tokens(rt: HostRuntime) -> Result<(), OutOfMemory> {
     for (lines, want) in [
         ("qreg q[2];\ncx q[0],q[0];", (8, 4, 9)),
         ("qreg q[2];\nh q[5];", (7, 4, 5)),
@@ -179,7 +180,7 @@ fn each_kind_once_more(rt: HostRuntime) {
 }
 
 #[test]
-fn limits_are_reached(rt: HostRuntime) -> Result<(), AllocError> {
+fn limits_are_reached(rt: HostRuntime) -> Result<(), OutOfMemory> {
     let alloc = rt.alloc();
     assert_eq!(rt;
         told_lines(alloc, "qreg q[4096];\n", "t q;\n", 256)?,
@@ -213,8 +214,37 @@ fn limits_are_reached(rt: HostRuntime) -> Result<(), AllocError> {
     Ok(())
 }
 
+// The declarations of 4,096 registers of one qubit, r0 to r4095.
+fn registers_of_one(alloc: Global) -> Result<String, OutOfMemory> {
+    let mut text = String::new(alloc);
+    for i in 0..4096 {
+        let line = format!(in alloc; "qreg r{i}[1];\n")?;
+        text.push_str(line.as_str())?;
+    }
+    Ok(text)
+}
+
 #[test]
-fn names_and_lists_are_made(rt: HostRuntime) -> Result<(), AllocError> {
+fn time_grows_with_the_bytes(rt: HostRuntime) -> Result<(), OutOfMemory> {
+    let alloc = rt.alloc();
+    assert_eq!(rt;
+        told_lines(alloc, "qreg q[4096];\nbarrier q", ",q", 100_000)?,
+        Some((3, 4, 200_010))
+    );
+    assert_eq!(rt;
+        told_lines(alloc, "qreg q[4096];\n", "id q;\n", 100_000)?,
+        Some((0, 0, 0))
+    );
+    let registers = registers_of_one(alloc)?;
+    assert_eq!(rt;
+        told_lines(alloc, registers.as_str(), "id r4095[0];\n", 50_000)?,
+        Some((0, 0, 0))
+    );
+    Ok(())
+}
+
+#[test]
+fn names_and_lists_are_made(rt: HostRuntime) -> Result<(), OutOfMemory> {
     assert!(rt; Name::of(rt.alloc(), "q")?.as_str() == "q");
     let registers = RegList::with_room(rt.alloc(), 2)?;
     assert_eq!(rt; registers.room(), 2);

@@ -1,1 +1,3 @@
 pub mod Gathering
+pub mod Sharing
+pub mod Crewing

@@ -2,3 +2,7 @@ pub use Rattle.pq_array.specs.Cells
 pub use Rattle.pq_oracle.specs.Ora
 pub use Rattle.pq_oracle.specs.Outcomes
 pub mod Results
+-- What private functions promise one another.
+pub mod Desks
+pub mod Shares
+pub mod Crews

@@ -6,8 +6,8 @@ use Rattle.pq_rules.specs.declared.row.RowFault.TheVariants.{Wires, TooLong, Not
 use Rattle.pq_gate.specs.declared.gate.Gate.{Gate}
 use Rattle.pq_gate.specs.Matrix.{Same}
 use Rattle.pq_rules.specs.Agreement.{IsBefore, FitsUpTo, IsFirstDiffering}
-use Rattle.pq_rules.specs.Fault.{with_phase, HasItsWires, IsOnItsWires, Shortens, Comes}
-use Rattle.pq_rules.specs.Row.{RowView, IsSound}
+use Rattle.pq_rules.specs.Fault.{with_phase, IsOnItsWires, IsShortening, Comes, HasNoFault}
+use Rattle.pq_rules.specs.Row.{RowView, HasItsWires, IsSound}
 use Rattle.pq_rules.specs.States.{state}
 
 pub length-state : (n x : ℕ) → length (state n x) ≡ n
@@ -22,7 +22,7 @@ fits_everywhere row k same from to = record {
 }
 
 -- a sound row has no fault
-pub no_fault : (raw : RawRow) (k : ℕ) → IsOnItsWires raw → Shortens raw → k ≤ 7 →
+pub no_fault : (raw : RawRow) (k : ℕ) → IsOnItsWires raw → IsShortening raw → k ≤ 7 →
     Same raw.wires raw.pattern.items raw.replacement.items k → (fault : RowFault) → Comes raw fault → ⊥
 no_fault raw k wires shortens few same Wires comes = comes wires
 no_fault raw k wires shortens few same TooLong comes = (let long : 8 < length raw.pattern.items = comes.1 in let short = shortens.short in omega arith)
@@ -89,17 +89,12 @@ sound_from raw k p q p_is q_is wires short shorter few same =
     let both : HasItsWires raw.wires raw.pattern.items raw.replacement.items = subst (λ (r : List Gate). HasItsWires raw.wires raw.pattern.items r) q_is one in
     let same_one : Same raw.wires raw.pattern.items q k = subst (λ (r : List Gate). Same raw.wires r q k) p_is same in
     record {
-      some = both.some;
-      few = both.few;
-      short = subst (λ (r : List Gate). length r ≤ 8) p_is short;
-      used = both.used;
-      shorter = omega (arith, ap length p_is, ap length q_is);
+      wires = both;
+      shortens = record { short = subst (λ (r : List Gate). length r ≤ 8) p_is short; shorter = omega (arith, ap length p_is, ap length q_is) };
       turn = few;
       same = subst (λ (r : List Gate). Same raw.wires raw.pattern.items r k) q_is same_one;
     }
 
--- so no fault of it comes
-pub sound_without_fault : (raw : RawRow) (k : ℕ) → IsSound (with_phase raw k) → (fault : RowFault) → Comes raw fault → ⊥
-sound_without_fault raw k sound =
-    no_fault raw k (record { some = sound.some; few = sound.few; left = sound.same.left; right = sound.same.right; used = sound.used })
-    (record { short = sound.short; shorter = sound.shorter }) sound.turn sound.same
+-- and no fault of its raw row comes
+pub no_fault_of : (raw : RawRow) (k : ℕ) → IsSound (with_phase raw k) → HasNoFault raw
+no_fault_of raw k sound = record { none = no_fault raw k sound.wires sound.shortens sound.turn sound.same }

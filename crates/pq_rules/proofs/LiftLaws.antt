@@ -4,10 +4,11 @@ use Rattle.pq_gate.specs.declared.gate.Gate.{Gate}
 use Rattle.pq_gate.specs.declared.gate.Gate.TheVariants.{H, X, Phase, Cx}
 use Rattle.pq_gate.specs.declared.ring.Ring.{Ring}
 use Rattle.pq_gate.specs.Bits.{bit}
-use Rattle.pq_gate.specs.Circuit.{IsOnWires, IsCircuit}
+use Rattle.pq_gate.specs.Circuit.{AreOn, IsOnWires, IsCircuit}
 use Rattle.pq_gate.specs.Eighths.{eighths_of}
 use Rattle.pq_gate.specs.Ring.{plus, turned, turned_if, rooted}
 use Rattle.pq_gate.specs.Matrix.{through, roots_of, h_count, Same}
+use Rattle.pq_gate.specs.Ports.{wires_of}
 use Rattle.pq_gate.proofs.ActLaws.{through_reads, Act}
 use Rattle.pq_gate.proofs.SameLaws.{Same-acts, Same-from_acts}
 use Rattle.pq_rules.specs.Renaming.{IsRenaming, renamed}
@@ -101,11 +102,20 @@ module _ (m n : ℕ) (e : List ℕ) (is : IsRenaming m n e) (x : List Bool) (x_i
       through-renamed g all.0 (Act (map (renamed e) p) f) z z_is ∙
       through_reads m g (λ y. Act (map (renamed e) p) f (pushed e x y)) (Act p (λ y. f (pushed e x y))) (Act-renamed p all.1 f) z z_is
 
+AreOn-renamed : {m n : ℕ} {e : List ℕ} → IsRenaming m n e → (wires : List ℕ) → AreOn m wires → AreOn n (map (λ w. get_or e w 0) wires)
+AreOn-renamed is [] on = tt
+AreOn-renamed is (w ∷ []) on = is.inside w on
+AreOn-renamed is (c ∷ t ∷ rest) on = (is.inside c on.0, is.inside t on.1, λ same. on.2 (is.apart c t on.0 on.1 same))
+
+-- the wires of a renamed gate are those that its wires are led to
+pub wires_of-renamed : (e : List ℕ) (g : Gate) → wires_of (renamed e g) ≡ map (λ w. get_or e w 0) (wires_of g)
+wires_of-renamed e (H w) = refl
+wires_of-renamed e (X w) = refl
+wires_of-renamed e (Phase k w) = refl
+wires_of-renamed e (Cx c t) = refl
+
 IsOnWires-renamed : {m n : ℕ} {e : List ℕ} → IsRenaming m n e → (g : Gate) → IsOnWires m g → IsOnWires n (renamed e g)
-IsOnWires-renamed is (H w) on = is.inside w on
-IsOnWires-renamed is (X w) on = is.inside w on
-IsOnWires-renamed is (Phase k w) on = is.inside w on
-IsOnWires-renamed is (Cx c t) on = (is.inside c on.0, is.inside t on.1, λ same. on.2 (is.apart c t on.0 on.1 same))
+IsOnWires-renamed {m} {n} {e} is g on = subst (AreOn n) (sym (wires_of-renamed e g)) (AreOn-renamed is (wires_of g) on)
 
 -- a renamed circuit is a circuit
 pub IsCircuit-renamed : {m n : ℕ} {e : List ℕ} → IsRenaming m n e → (p : List Gate) → IsCircuit m p → IsCircuit n (map (renamed e) p)

@@ -2,13 +2,14 @@ use Rattle.std.proofs.Common.{◌≡◌, ℕ, zero, suc, ◌^◌, ◌<◌, ◌�
 use Rattle.std.specs.Prelude.{ℤ, pos, negsuc}
 use Rattle.std.proofs.lemmas.Bool.{ltb-true, leb-true, eqb-true}
 use Rattle.pq_gate.specs.declared.gate.Gate.{Gate}
-use Rattle.pq_gate.specs.declared.gate.Gate.TheVariants.{H, X, Phase, Cx}
 use Rattle.pq_gate.specs.declared.ring.Ring.{Ring}
-use Rattle.pq_gate.specs.Circuit.{IsOnWires, IsCircuit}
+use Rattle.pq_gate.specs.Circuit.{AreOn, IsCircuit}
 use Rattle.pq_gate.specs.Commuting.{Touches}
 use Rattle.pq_gate.specs.Matrix.{Entry, h_count, Same}
+use Rattle.pq_gate.specs.Ports.{wires_of, IsAmong}
 use Rattle.pq_gate.specs.Ring.{nought, one, plus, turn, root, turned, rooted}
 use Rattle.pq_gate.proofs.RingLaws.{same_numbers}
+use Rattle.pq_gate.proofs.WireLaws.{uses_listed}
 use Rattle.pq_rules.specs.declared.table.Shape.{Shape}
 use Rattle.pq_rules.specs.declared.table.TheConstants.{GATES, SHAPES}
 use Rattle.pq_rules.specs.Agreement.{AgreesAt}
@@ -50,42 +51,48 @@ same_ring-true r s is =
     let third = both _ _ second.1 in
     same_numbers r s (same_number-true _ _ first.0) (same_number-true _ _ second.0) (same_number-true _ _ third.0) (same_number-true _ _ third.1)
 
-abbrev on_wires : ℕ → Gate → Bool
-on_wires n (H w) = ltb w n
-on_wires n (X w) = ltb w n
-on_wires n (Phase k w) = ltb w n
-on_wires n (Cx c t) = ltb c n && (ltb t n && not (eqb c t))
+abbrev are_on : ℕ → List ℕ → Bool
+are_on n [] = true
+are_on n (wire ∷ []) = ltb wire n
+are_on n (first ∷ second ∷ rest) = ltb first n && (ltb second n && not (eqb first second))
 
 differ : (c t : ℕ) → not (eqb c t) ≡ true → c ≡ t → ⊥
 differ c t is same = (let e : not (eqb c c) ≡ true = subst (λ (u : ℕ). not (eqb c u) ≡ true) (sym same) is in let s : eqb c c ≡ true = eq-eqb c c refl in absurd (cc))
 
-on_wires-true : (n : ℕ) (g : Gate) → on_wires n g ≡ true → IsOnWires n g
-on_wires-true n (H w) is = ltb-true w n is
-on_wires-true n (X w) is = ltb-true w n is
-on_wires-true n (Phase k w) is = ltb-true w n is
-on_wires-true n (Cx c t) is =
+are_on-true : (n : ℕ) (wires : List ℕ) → are_on n wires ≡ true → AreOn n wires
+are_on-true n [] is = tt
+are_on-true n (wire ∷ []) is = ltb-true wire n is
+are_on-true n (c ∷ t ∷ rest) is =
     let first = both _ _ is in
     let second = both _ _ first.1 in (ltb-true c n first.0, ltb-true t n second.0, differ c t second.1)
 
+abbrev on_wires : ℕ → Gate → Bool
+on_wires n gate = are_on n (wires_of gate)
+
 circuit_true : (n : ℕ) (gates : List Gate) → all_true (on_wires n) gates ≡ true → IsCircuit n gates
 circuit_true n [] is = tt
-circuit_true n (g ∷ gates) is = (on_wires-true n g (both _ _ is).0, circuit_true n gates (both _ _ is).1)
+circuit_true n (g ∷ gates) is = (are_on-true n (wires_of g) (both _ _ is).0, circuit_true n gates (both _ _ is).1)
 
-abbrev touching : ℕ → Gate → Bool
-touching w (H wire) = eqb w wire
-touching w (X wire) = eqb w wire
-touching w (Phase k wire) = eqb w wire
-touching w (Cx c t) = eqb w c || eqb w t
+abbrev among : ℕ → List ℕ → Bool
+among w [] = false
+among w (wire ∷ []) = eqb w wire
+among w (wire ∷ next ∷ rest) = eqb w wire || among w (next ∷ rest)
 
 either : (p q : Bool) → p || q ≡ true → (p ≡ true) ⊎ (q ≡ true)
 either true q is = inl refl
 either false q is = inr is
 
+among-true : (w : ℕ) (wires : List ℕ) → among w wires ≡ true → IsAmong w wires
+among-true w [] is = absurd (cc)
+among-true w (wire ∷ []) is = eqb-true w wire is
+among-true w (wire ∷ next ∷ rest) is =
+    elim (either _ _ is) [ inl here ↦ inl (eqb-true w wire here) | inr later ↦ inr (among-true w (next ∷ rest) later) ]
+
+abbrev touching : ℕ → Gate → Bool
+touching w gate = among w (wires_of gate)
+
 touching-true : (w : ℕ) (g : Gate) → touching w g ≡ true → Touches g w
-touching-true w (H wire) is = eqb-true w wire is
-touching-true w (X wire) is = eqb-true w wire is
-touching-true w (Phase k wire) is = eqb-true w wire is
-touching-true w (Cx c t) is = elim (either _ _ is) [ inl one ↦ inl (eqb-true w c one) | inr other ↦ inr (eqb-true w t other) ]
+touching-true w g is = uses_listed g w (among-true w (wires_of g) is)
 
 abbrev any_touching : ℕ → List Gate → Bool
 any_touching w [] = false
@@ -143,11 +150,14 @@ sound_of_test row is =
     let left = circuit_true row.wires row.pattern f.0 in
     let right = circuit_true row.wires row.replacement g.0 in
     record {
-      some = leb-true _ _ a.0;
-      few = leb-true _ _ b.0;
-      short = leb-true _ _ c.0;
-      used = λ w below. uses_true w row.pattern (all_below-at row.wires (λ w. any_touching w row.pattern) h.0 w below);
-      shorter = ltb-true _ _ d.0;
+      wires = record {
+        some = leb-true _ _ a.0;
+        few = leb-true _ _ b.0;
+        left = left;
+        right = right;
+        used = λ w below. uses_true w row.pattern (all_below-at row.wires (λ w. any_touching w row.pattern) h.0 w below);
+      };
+      shortens = record { short = leb-true _ _ c.0; shorter = ltb-true _ _ d.0 };
       turn = leb-true _ _ e.0;
       same = same_of_agrees row left right (λ f t f_in t_in. same_ring-true _ _
           (all_below-at (2 ^ row.wires) (λ t. agree_test row f t)

@@ -1,22 +1,15 @@
 use Rattle.std.specs.Prelude.{ℕ, zero, suc, ◌+◌, ◌==◌, Bool, false, cond, List, [], ◌∷◌, Option, None, slice_get}
 use Rattle.pq_gate.specs.declared.gate.Gate.{Gate}
-use Rattle.pq_gate.specs.declared.gate.Gate.TheVariants.{H, X, Phase, Cx}
-use Rattle.pq_gate.specs.Eighths.{eighths_of}
+use Rattle.pq_gate.specs.Kind.{kind_of, number_of}
 use Rattle.pq_rules.specs.Row.{RowView}
 
--- The kind of a gate, as a number: H, X, CX, and each number of eighths, are kinds of their own.
-abbrev pub kind_of : Gate → ℕ
-kind_of (H wire) = 0
-kind_of (X wire) = 1
-kind_of (Cx control target) = 2
-kind_of (Phase eighths wire) = 2 + eighths_of eighths
-
--- the list begins with a gate of this kind
+-- the list begins with a gate of the kind of this number
 abbrev pub begins : ℕ → List Gate → Bool
 begins kind [] = false
-begins kind (gate ∷ rest) = kind_of gate == kind
+begins kind (gate ∷ rest) = number_of (kind_of gate) == kind
 
--- the numbers, ascending, of the rows whose first gate is of this kind, where the first row has the number `first`
+-- the numbers, ascending, of the rows whose first gate is of the kind of this number, where
+-- the first row has the number `first`
 abbrev pub numbers_starting : ℕ → ℕ → List RowView → List ℕ
 numbers_starting kind first [] = []
 numbers_starting kind first (row ∷ rows) =

@@ -1,6 +1,7 @@
 use Rattle.std.specs.Prelude.{◌≡◌, ℕ, ◌<◌, List, length, slice_index}
 use Rattle.pq_gate.specs.declared.gate.Gate.{Gate}
-use Rattle.pq_gate.specs.declared.gate.Gate.TheVariants.{H, X, Phase, Cx}
+use Rattle.pq_gate.specs.Kind.{kind_of, gate_on}
+use Rattle.pq_gate.specs.Ports.{first_wire, last_wire}
 
 -- A renaming leads the wires below m to different wires below n. It is the list of the wires that
 -- they are led to.
@@ -9,9 +10,6 @@ pub record IsRenaming (m n : ℕ) (e : List ℕ) : Type 0 where
   pub inside : (w : ℕ) → w < m → slice_index e w < n
   pub apart : (v w : ℕ) → v < m → w < m → slice_index e v ≡ slice_index e w → v ≡ w
 
--- the gate with its wires renamed
+-- the gate of the same kind on the wires that its wires are led to
 abbrev pub renamed : List ℕ → Gate → Gate
-renamed e (H wire) = H (slice_index e wire)
-renamed e (X wire) = X (slice_index e wire)
-renamed e (Phase eighths wire) = Phase eighths (slice_index e wire)
-renamed e (Cx control target) = Cx (slice_index e control) (slice_index e target)
+renamed e gate = gate_on (kind_of gate) (slice_index e (first_wire gate)) (slice_index e (last_wire gate))

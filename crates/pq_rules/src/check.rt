@@ -1,19 +1,20 @@
 ghost use Rattle.std.specs.Prelude.{◌≡◌, ◌<◌, length, IfOk, IfErr};
-ghost use Rattle.pq_rules.specs.declared.row.RowFault.{RowFault};
-ghost use Rattle.pq_rules.specs.Fault.{with_phase, Comes};
+ghost use Rattle.pq_rules.specs.Fault.{with_phase, Comes, HasNoFault};
 ghost use Rattle.pq_rules.specs.Row.{IsSound};
 
 use crate::compare::{has_its_wires, phase_of};
 use crate::row::{RawRow, Row, RowFault};
+use pq_limits::MAX_ROW_GATES;
 
 /// Checks a raw row by computing the matrices of both sides. It takes no memory. The faults are tried
 /// in the order in which `RowFault` lists them; `laws::one_fault` says that at most one of them comes.
+#[tactic(auto, using(crate::proofs::FaultLaws::sound_from))]
 pub fn check_row(raw: RawRow) -> Result<Row, RowFault>
     ensures row { IfOk result (λ row. row ≡ with_phase raw row.phase) }
     ensures sound { IfOk result (λ row. IsSound row) }
 
     // A row is given only where no fault comes, and a fault only where it comes.
-    ensures ok { IfOk result (λ row. (fault : RowFault) → Comes raw fault → ⊥) }
+    ensures ok { IfOk result (λ row. HasNoFault raw) }
     ensures fault { IfErr result (λ fault. Comes raw fault) }
 {
     let pattern = raw.pattern.as_slice();
@@ -21,7 +22,7 @@ pub fn check_row(raw: RawRow) -> Result<Row, RowFault>
     if !has_its_wires(raw.wires, pattern, replacement) {
         return Err(RowFault::Wires);
     }
-    if pattern.len() > 8 {
+    if pattern.len() > MAX_ROW_GATES {
         return Err(RowFault::TooLong);
     }
     if replacement.len() >= pattern.len() {
@@ -38,7 +39,8 @@ mod tests {
     use super::*;
     use crate::rules::Rules;
     use pq_gate::{Eighths, Gate, GateList};
-    use std::alloc::{AllocError, Global};
+    use pq_list::OutOfMemory;
+    use std::alloc::Global;
     use std::process::Abort;
     use std::test::Fail;
 
@@ -71,7 +73,7 @@ mod tests {
         wires: u8,
         pattern: &[Gate],
         replacement: &[Gate],
-    ) -> Result<RawRow, AllocError>
+    ) -> Result<RawRow, OutOfMemory>
         requires pattern { length pattern.now < 100 }
         requires replacement { length replacement.now < 100 }
     {
@@ -89,7 +91,7 @@ mod tests {
         pattern: &[Gate],
         replacement: &[Gate],
         fault: RowFault,
-    ) -> Result<(), AllocError>
+    ) -> Result<(), OutOfMemory>
         requires pattern { length pattern.now < 100 }
         requires replacement { length replacement.now < 100 }
     {
@@ -122,7 +124,7 @@ mod tests {
     }
 
     // the check finds the phase of the row
-    fn finds_its_phase(rt: &(impl Abort + AllocGlobal), row: &Row) -> Result<(), AllocError> {
+    fn finds_its_phase(rt: &(impl Abort + AllocGlobal), row: &Row) -> Result<(), OutOfMemory> {
         let pattern = row.pattern();
         let replacement = row.replacement();
         let raw = raw_row(rt.alloc(), row.wires(), pattern, replacement)?;

@@ -4,7 +4,6 @@
 ghost use Rattle.std.specs.Prelude.{◌≡◌, ℕ, ◌+◌, ◌^◌, ◌<◌, ◌≤◌, Bool, List, true, cond, length, slice_set};
 ghost use Rattle.pq_gate.specs.Bits.{bit, same_bits, toggled};
 ghost use Rattle.pq_gate.specs.Circuit.{IsOnWires, IsCircuit};
-ghost use Rattle.pq_gate.specs.Eighths.{eighths_of};
 ghost use Rattle.pq_gate.specs.Matrix.{through, Entry};
 ghost use Rattle.pq_gate.specs.Ring.{nought, one, plus, root, rooted, turned, turned_if};
 ghost use Rattle.pq_gate.specs.declared.ring.Ring.{Ring};
@@ -12,7 +11,8 @@ ghost use Rattle.pq_rules.specs.Bounds.{IsWithin, IsColumnWithin};
 ghost use Rattle.pq_rules.specs.Columns.{HasWeights, IsMatrix};
 ghost use Rattle.pq_rules.specs.States.{state};
 
-use pq_gate::{Eighths, Gate, Ring};
+use pq_gate::{Gate, Ring};
+use pq_limits::{MAX_ROW_GATES, MAX_ROW_WIRES};
 
 const ZERO: Ring = Ring {
     a: 0,
@@ -30,7 +30,7 @@ const ONE: Ring = Ring {
 
 /// How many basis states there are.
 pub fn states(wires: u8) -> u8
-    requires { wires ≤ 3 }
+    requires { wires ≤ MAX_ROW_WIRES }
     ensures value { result ≡ 2 ^ wires }
     ensures few { result ≤ 8 }
 {
@@ -44,7 +44,7 @@ pub fn states(wires: u8) -> u8
 
 // the number of the state whose only 1 is this wire's
 fn mask(wire: u32) -> u8
-    requires { wire < 3 }
+    requires { wire < MAX_ROW_WIRES }
     ensures value { result ≡ 2 ^ wire }
     ensures few { result ≤ 4 }
 {
@@ -58,8 +58,8 @@ fn mask(wire: u32) -> u8
 // the value of a wire
 fn has_bit(number: u8, wire: u32) -> bool
     requires number { number < 8 }
-    requires wire { wire < 3 }
-    ensures { (n : ℕ) → n ≤ 3 → wire < n → result ≡ bit (state n number) wire }
+    requires wire { wire < MAX_ROW_WIRES }
+    ensures { (n : ℕ) → n ≤ MAX_ROW_WIRES → wire < n → result ≡ bit (state n number) wire }
 {
     number / mask(wire) % 2 == 1
 }
@@ -67,9 +67,9 @@ fn has_bit(number: u8, wire: u32) -> bool
 // the number of the state with the wire's value changed
 fn with_bit(number: u8, wire: u32, value: bool) -> u8
     requires number { number < 8 }
-    requires wire { wire < 3 }
+    requires wire { wire < MAX_ROW_WIRES }
     ensures number { result < 8 }
-    ensures state { (n : ℕ) → n ≤ 3 → wire < n → state n result ≡ slice_set (state n number) wire value }
+    ensures state { (n : ℕ) → n ≤ MAX_ROW_WIRES → wire < n → state n result ≡ slice_set (state n number) wire value }
 {
     if value {
         number | mask(wire)
@@ -121,24 +121,12 @@ fn root_times(ring: Ring) -> Ring
     }
 }
 
-fn eighths_count(eighths: Eighths) -> u8
-    ensures { result ≡ eighths_of eighths }
-{
-    match eighths {
-        Eighths::T => 1,
-        Eighths::S => 2,
-        Eighths::Z => 4,
-        Eighths::Sdg => 6,
-        Eighths::Tdg => 7,
-    }
-}
-
 // the number of the state with the wire's value changed where `by` is true
 fn toggled_bit(number: u8, wire: u32, by: bool) -> u8
     requires number { number < 8 }
-    requires wire { wire < 3 }
+    requires wire { wire < MAX_ROW_WIRES }
     ensures number { result < 8 }
-    ensures state { (n : ℕ) → n ≤ 3 → wire < n → state n result ≡ toggled (state n number) wire by }
+    ensures state { (n : ℕ) → n ≤ MAX_ROW_WIRES → wire < n → state n result ≡ toggled (state n number) wire by }
 {
     let value = has_bit(number, wire);
     with_bit(number, wire, if by { !value } else { value })
@@ -166,7 +154,7 @@ fn turned_where(bit: bool, k: u8, ring: Ring) -> Ring
 
 // √2^k
 fn root_power(k: u8) -> Ring
-    requires { k ≤ 8 }
+    requires { k ≤ MAX_ROW_GATES }
     ensures { result ≡ rooted k one }
 {
     let mut power = ONE;
@@ -178,10 +166,10 @@ fn root_power(k: u8) -> Ring
 
 // what the gate gives from a state on, where `rest` is what the later gates give
 fn entry_through(gate: Gate, rest: &[Ring; 8], from: u8) -> Ring
-    requires gate { IsOnWires 3 gate }
+    requires gate { IsOnWires MAX_ROW_WIRES gate }
     requires from { from < 8 }
     requires rest { IsColumnWithin 16384 rest.now }
-    ensures { (n : ℕ) (f : List Bool → Ring) → n ≤ 3 → IsOnWires n gate → HasWeights n rest.now f →
+    ensures { (n : ℕ) (f : List Bool → Ring) → n ≤ MAX_ROW_WIRES → IsOnWires n gate → HasWeights n rest.now f →
         result ≡ through gate f (state n from) }
 {
     match gate {
@@ -192,11 +180,7 @@ fn entry_through(gate: Gate, rest: &[Ring; 8], from: u8) -> Ring
         }
         Gate::X { wire } => rest[toggled_bit(from, wire, true) as usize],
         Gate::Phase { eighths, wire } => {
-            turned_where(
-                has_bit(from, wire),
-                eighths_count(eighths),
-                rest[from as usize],
-            )
+            turned_where(has_bit(from, wire), eighths.count(), rest[from as usize])
         }
         Gate::Cx { control, target } => {
             rest[toggled_bit(from, target, has_bit(from, control)) as usize]
@@ -206,9 +190,9 @@ fn entry_through(gate: Gate, rest: &[Ring; 8], from: u8) -> Ring
 
 // what the gate gives from each state on
 fn column_through(gate: Gate, rest: &[Ring; 8]) -> [Ring; 8]
-    requires gate { IsOnWires 3 gate }
+    requires gate { IsOnWires MAX_ROW_WIRES gate }
     requires rest { IsColumnWithin 16384 rest.now }
-    ensures { (n : ℕ) (f : List Bool → Ring) → n ≤ 3 → IsOnWires n gate → HasWeights n rest.now f →
+    ensures { (n : ℕ) (f : List Bool → Ring) → n ≤ MAX_ROW_WIRES → IsOnWires n gate → HasWeights n rest.now f →
         HasWeights n result (λ x. through gate f x) }
 {
     let mut column = *rest;
@@ -220,7 +204,7 @@ fn column_through(gate: Gate, rest: &[Ring; 8]) -> [Ring; 8]
 
 // `unit` at the state with the number `to`, and 0 at each other one
 fn column_at(wires: u8, unit: Ring, to: u8) -> [Ring; 8]
-    requires wires { wires ≤ 3 }
+    requires wires { wires ≤ MAX_ROW_WIRES }
     requires to { to < 2 ^ wires }
     ensures { HasWeights wires result (λ x. cond (same_bits x (state wires to)) unit nought) }
 {
@@ -235,10 +219,10 @@ fn column_at(wires: u8, unit: Ring, to: u8) -> [Ring; 8]
 /// The column of the circuit's matrix with what leads to the state with the number `to`, times
 /// √2^`roots` more.
 pub fn column_of(gates: &[Gate], wires: u8, roots: u8, to: u8) -> [Ring; 8]
-    requires wires { wires ≤ 3 }
+    requires wires { wires ≤ MAX_ROW_WIRES }
     requires gates { IsCircuit wires gates.now }
     requires to { to < 2 ^ wires }
-    requires roots { roots ≤ 8 }
+    requires roots { roots ≤ MAX_ROW_GATES }
     requires few { roots + length gates.now ≤ 15 }
     ensures { HasWeights wires result (λ x. rooted roots (Entry gates.now x (state wires to))) }
 {
@@ -253,9 +237,9 @@ pub fn column_of(gates: &[Gate], wires: u8, roots: u8, to: u8) -> [Ring; 8]
 
 /// The columns of the circuit's matrix, times √2^`roots` more.
 pub fn matrix_of(gates: &[Gate], wires: u8, roots: u8) -> [[Ring; 8]; 8]
-    requires wires { wires ≤ 3 }
+    requires wires { wires ≤ MAX_ROW_WIRES }
     requires gates { IsCircuit wires gates.now }
-    requires roots { roots ≤ 8 }
+    requires roots { roots ≤ MAX_ROW_GATES }
     requires few { roots + length gates.now ≤ 15 }
     ensures { IsMatrix wires roots gates.now result }
 {

@@ -1,56 +1,32 @@
 ghost use Rattle.std.specs.Prelude.{◌≡◌, ◌↔◌, ℕ, ◌+◌, ◌*◌, ◌/◌, ◌%◌, ◌<◌, ◌≤◌, length, IsTrue, MatchOption, MatchResult};
-ghost use Rattle.pq_gate.specs.Circuit.{IsOnWires, IsCircuit};
-ghost use Rattle.pq_gate.specs.Commuting.{Touches};
-ghost use Rattle.pq_gate.specs.Matrix.{Same, h_count, roots_of};
-ghost use Rattle.pq_rules.specs.Fault.{HasItsWires};
+ghost use Rattle.pq_gate.specs.Circuit.{IsCircuit};
+ghost use Rattle.pq_gate.specs.Matrix.{Same, h_count};
 ghost use Rattle.pq_rules.specs.Pairs.{IsMatrixWithin, MatchesAt, MatchesBelow, entry_in};
 ghost use Rattle.pq_gate.specs.Ring.{turned};
-ghost use Rattle.pq_rules.specs.Row.{Uses};
+ghost use Rattle.pq_rules.specs.Row.{Uses, HasItsWires};
 ghost use Rattle.pq_rules.specs.Agreement.{IsFirstDiffering};
 
 use crate::column::{matrix_of, states, turned_by};
 use pq_gate::{Gate, Ring};
+use pq_limits::{MAX_ROW_GATES, MAX_ROW_WIRES, MIN_ROW_WIRES};
 
-// whether the gate acts on wires below `wires`, a CX on two different ones
-fn is_on_wires(gate: Gate, wires: u8) -> bool
-    ensures { IsTrue result ↔ IsOnWires wires gate }
-{
-    match gate {
-        Gate::H { wire } | Gate::X { wire } | Gate::Phase { wire, .. } => wire < u32::from(wires),
-        Gate::Cx { control, target } => {
-            control < u32::from(wires) && target < u32::from(wires) && control != target
-        }
-    }
-}
-
-// whether all gates do
+// whether the gates are a circuit on so many wires
 fn are_on_wires(gates: &[Gate], wires: u8) -> bool
     ensures { IsTrue result ↔ IsCircuit wires gates.now }
 {
     for gate in gates {
-        if !is_on_wires(*gate, wires) {
+        if !gate.is_on_wires(u32::from(wires)) {
             return false;
         }
     }
     true
 }
 
-// whether the gate uses the wire
-fn touches(gate: Gate, wire: u32) -> bool
-    ensures { IsTrue result ↔ Touches gate wire }
-{
-    match gate {
-        Gate::H { wire: own } | Gate::X { wire: own } | Gate::Phase { wire: own, .. } => wire
-            == own,
-        Gate::Cx { control, target } => wire == control || wire == target,
-    }
-}
-
 // whether some gate uses the wire
 fn uses(gates: &[Gate], wire: u32) -> bool
     ensures { IsTrue result ↔ Uses gates.now wire }
 {
-    gates.iter().any(|gate| touches(*gate, wire))
+    gates.iter().any(|gate| gate.touches(wire))
 }
 
 // whether the gates use all wires
@@ -70,33 +46,22 @@ fn use_all(gates: &[Gate], wires: u8) -> bool
 pub fn has_its_wires(wires: u8, pattern: &[Gate], replacement: &[Gate]) -> bool
     ensures { IsTrue result ↔ HasItsWires wires pattern.now replacement.now }
 {
-    1 <= wires
-        && wires <= 3
+    MIN_ROW_WIRES <= wires
+        && wires <= MAX_ROW_WIRES
         && are_on_wires(pattern, wires)
         && are_on_wires(replacement, wires)
         && use_all(pattern, wires)
 }
 
-// how many H gates the gate is
-fn h_part(gate: Gate) -> u8
-    ensures is { result ≡ roots_of gate }
-    ensures few { result ≤ 1 }
-{
-    match gate {
-        Gate::H { .. } => 1,
-        Gate::X { .. } | Gate::Phase { .. } | Gate::Cx { .. } => 0,
-    }
-}
-
 /// The number of H gates.
 pub fn h_gates(gates: &[Gate]) -> u8
-    requires { length gates.now ≤ 8 }
+    requires { length gates.now ≤ MAX_ROW_GATES }
     ensures is { result ≡ h_count gates.now }
     ensures few { result ≤ length gates.now }
 {
     let mut count = 0;
     for gate in gates {
-        count += h_part(*gate);
+        count += gate.roots();
     }
     count
 }
@@ -151,7 +116,7 @@ pub fn matching_phase(left: &[[Ring; 8]; 8], right: &[[Ring; 8]; 8], size: u8) -
 /// that no single phase makes the entries of all pairs up to and with it agree.
 pub fn phase_of(wires: u8, pattern: &[Gate], replacement: &[Gate]) -> Result<u8, (u8, u8)>
     requires wires { HasItsWires wires pattern.now replacement.now }
-    requires short { length pattern.now ≤ 8 }
+    requires short { length pattern.now ≤ MAX_ROW_GATES }
     requires shorter { length replacement.now < length pattern.now }
     ensures { MatchResult result (λ k. (k ≤ 7) × Same wires pattern.now replacement.now k) (λ pair. IsFirstDiffering
         (record { wires = wires; pattern = pattern.now; replacement = replacement.now; phase = 0 }) pair.0 pair.1) }

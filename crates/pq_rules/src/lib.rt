@@ -13,4 +13,4 @@ mod table;
 
 pub use check::check_row;
 pub use row::{RawRow, Row, RowFault};
-pub use rules::Rules;
+pub use rules::{BUILTIN_ROWS, MAX_ROWS, Rules};

@@ -7,16 +7,18 @@ use crate::check::check_row;
 use crate::row::{RawRow, RowFault};
 use crate::rules::Rules;
 use pq_gate::{Eighths, Gate, GateList};
-use std::alloc::{AllocError, Global};
+use pq_limits::MAX_ROW_GATES;
+use pq_list::OutOfMemory;
+use std::alloc::Global;
 use std::process::Abort;
 use std::test::Fail;
 
 // a place where no row has a gate
-const NOWHERE: usize = 8;
+const NOWHERE: usize = MAX_ROW_GATES;
 
 // the gates, with the one at the place changed
-fn changed(alloc: Global, gates: &[Gate], place: usize, gate: Gate) -> Result<GateList, AllocError>
-    requires { length gates.now ≤ 8 }
+fn changed(alloc: Global, gates: &[Gate], place: usize, gate: Gate) -> Result<GateList, OutOfMemory>
+    requires { length gates.now ≤ MAX_ROW_GATES }
 {
     let mut copy = Vec::from_slice(alloc, gates)?;
     if place < copy.len() {
@@ -34,7 +36,7 @@ fn differs(
     in_replacement: usize,
     gate: Gate,
     pair: (u8, u8),
-) -> Result<(), AllocError> {
+) -> Result<(), OutOfMemory> {
     let row = rules.row(number).expect(rt, "a row");
     let raw = RawRow {
         wires: row.wires(),

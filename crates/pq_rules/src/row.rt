@@ -1,4 +1,5 @@
 ghost use Rattle.std.specs.Prelude.{◌≡◌};
+ghost use Rattle.pq_rules.specs.Fault.{with_phase, HasNoFault};
 ghost use Rattle.pq_rules.specs.Row.{IsSound};
 
 use pq_gate::{Gate, GateList};
@@ -53,10 +54,11 @@ impl Model for Row {
 }
 
 impl Row {
-    // the raw row with its phase
+    // the raw row with its phase; so no fault of it comes
     pub(crate) fn checked(raw: RawRow, phase: u8) -> Row
-        requires { IsSound (record { wires = raw.wires; pattern = raw.pattern.items; replacement = raw.replacement.items; phase = phase }) }
-        ensures { result ≡ record { wires = raw.wires; pattern = raw.pattern.items; replacement = raw.replacement.items; phase = phase } }
+        requires { IsSound (with_phase raw phase) }
+        ensures row { result ≡ with_phase raw phase }
+        ensures ok { HasNoFault raw }
     {
         Row { raw, phase }
     }

@@ -1,18 +1,24 @@
 ghost use Rattle.std.specs.Prelude.{◌≡◌, ℕ, ◌+◌, ◌<◌, ◌≤◌, ◌++◌, [], ◌∷◌, All, cond, length, map, IfOk, IfSome, slice_index_or, vec_len};
 ghost use Rattle.std.specs.Option.{option_copied};
-ghost use Rattle.pq_rules.specs.Kinds.{kind_of, begins, numbers_starting, row_numbered};
+ghost use Rattle.pq_gate.specs.Kind.{kind_of, number_of};
+ghost use Rattle.pq_rules.specs.Kinds.{begins, numbers_starting, row_numbered};
 ghost use Rattle.pq_rules.specs.Row.{RowView, IsSound};
 ghost use Rattle.pq_rules.specs.Shapes.{shape_row};
 ghost use Rattle.pq_rules.specs.Table.{builtin_rows};
 
 use crate::row::{RawRow, Row};
 use crate::table::{GATES, SHAPES, Shape};
-use pq_gate::{Eighths, Gate, GateList};
-use std::alloc::{AllocError, Global};
+use pq_gate::{Gate, GateList, KINDS};
+use pq_limits::MAX_EXTRA_ROWS;
+use pq_list::{OutOfMemory, crosses_threads};
+use std::alloc::Global;
 use std::marker::Model;
 
-// how many numbers there are for kinds of gates
-const KINDS: u8 = 10;
+/// How many rows are built in.
+pub const BUILTIN_ROWS: usize = 52;
+
+/// The most rows: the built-in ones, and as many as may follow them.
+pub const MAX_ROWS: usize = BUILTIN_ROWS + MAX_EXTRA_ROWS;
 
 /// Sound rows, numbered from 1, with an index by the kind of their first gate. Contracts see the list
 /// of the rows.
@@ -20,7 +26,7 @@ const KINDS: u8 = 10;
 pub struct Rules {
     rows: Vec<Row>,
 
-    // for each kind, the numbers of the rows that start with it
+    // by the number of a kind: the numbers of the rows that start with a gate of it
     starting: Vec<Vec<u32>>,
 }
 
@@ -31,20 +37,22 @@ impl Model for Rules {
     ghost Value = { List RowView };
 
     ghost use Rattle.std.specs.Prelude.{◌≡◌, ◌<◌, ◌≤◌, All, slice_index_or, vec_len};
+    ghost use Rattle.pq_gate.specs.declared.kind.TheConstants.{KINDS};
     ghost use Rattle.pq_rules.specs.Kinds.{numbers_starting};
     ghost use Rattle.pq_rules.specs.Row.{IsSound};
+    ghost use Rattle.pq_rules.specs.declared.rules.TheConstants.{MAX_ROWS};
 
     ghost view = { λ a. a.rows.items };
 
-    ghost invariant = { λ a. All IsSound a.rows.items × (vec_len a.rows ≤ 308) × (vec_len a.starting ≡ 10) ×
-        ((k : ℕ) (d : _) → k < 10 → (slice_index_or a.starting.items k d).items ≡ numbers_starting k 1 a.rows.items) };
+    ghost invariant = { λ a. All IsSound a.rows.items × (vec_len a.rows ≤ MAX_ROWS) × (vec_len a.starting ≡ KINDS) ×
+        ((k : ℕ) (d : _) → k < KINDS → (slice_index_or a.starting.items k d).items ≡ numbers_starting k 1 a.rows.items) };
 }
 
 impl Rules {
     /// The 52 built-in rows.
-    pub fn builtin(alloc: Global) -> Result<Rules, AllocError>
+    pub fn builtin(alloc: Global) -> Result<Rules, OutOfMemory>
         ensures rows { IfOk result (λ rules. rules ≡ builtin_rows) }
-        ensures count { IfOk result (λ rules. length rules ≡ 52) }
+        ensures count { IfOk result (λ rules. length rules ≡ BUILTIN_ROWS) }
     {
         let mut rows = Vec::with_capacity(alloc, SHAPES.len())?;
         for shape in &SHAPES {
@@ -54,8 +62,8 @@ impl Rules {
     }
 
     /// These rules, and the extra rows behind them.
-    pub fn with(self, alloc: Global, extra: Vec<Row>) -> Result<Rules, AllocError>
-        requires { length self + vec_len extra ≤ 308 }
+    pub fn with(self, alloc: Global, extra: Vec<Row>) -> Result<Rules, OutOfMemory>
+        requires { length self + vec_len extra ≤ MAX_ROWS }
         ensures { IfOk result (λ rules. rules ≡ self ++ extra.items) }
     {
         let Rules {
@@ -68,8 +76,8 @@ impl Rules {
     }
 
     // the rules with these rows
-    fn of(alloc: Global, rows: Vec<Row>) -> Result<Rules, AllocError>
-        requires { vec_len rows ≤ 308 }
+    fn of(alloc: Global, rows: Vec<Row>) -> Result<Rules, OutOfMemory>
+        requires { vec_len rows ≤ MAX_ROWS }
         ensures { IfOk result (λ rules. rules ≡ rows.items) }
     {
         let starting = index_of(alloc, rows.as_slice())?;
@@ -105,10 +113,16 @@ impl Rules {
     /// The numbers, ascending, of the rows whose first gate is of this gate's kind: for a phase, of the
     /// same eighths.
     pub fn rows_starting(&self, gate: Gate) -> &[u32]
-        ensures { result.now ≡ numbers_starting (kind_of gate) 1 self.now }
+        ensures { result.now ≡ numbers_starting (number_of (kind_of gate)) 1 self.now }
     {
-        self.starting[kind(gate) as usize].as_slice()
+        self.starting[gate.kind().number() as usize].as_slice()
     }
+}
+
+// Rows and rules cross threads.
+fn rules_cross_threads() {
+    crosses_threads::<Row>();
+    crosses_threads::<Rules>();
 }
 
 // All rows are sound, since each of them is.
@@ -120,37 +134,18 @@ fn rows_are_sound(rows: &[Row])
     }
 }
 
-// the kind of a gate
-fn kind(gate: Gate) -> u8
-    ensures kind { result ≡ kind_of gate }
-    ensures few { result < 10 }
-{
-    match gate {
-        Gate::H { .. } => 0,
-        Gate::X { .. } => 1,
-        Gate::Cx { .. } => 2,
-        Gate::Phase { eighths, .. } => match eighths {
-            Eighths::T => 3,
-            Eighths::S => 4,
-            Eighths::Z => 6,
-            Eighths::Sdg => 8,
-            Eighths::Tdg => 9,
-        },
-    }
-}
-
-// whether the row's pattern starts with a gate of this kind
+// whether the row's pattern starts with a gate of the kind of this number
 fn starts(row: &Row, of_kind: u8) -> bool
     ensures { result ≡ begins of_kind row.now.pattern }
 {
     match row.pattern() {
-        [first, ..] => kind(*first) == of_kind,
+        [first, ..] => first.kind().number() == of_kind,
         [] => false,
     }
 }
 
 // appends the number where it is wanted
-fn push_where(numbers: &mut Vec<u32>, number: u32, wanted: bool) -> Result<(), AllocError>
+fn push_where(numbers: &mut Vec<u32>, number: u32, wanted: bool) -> Result<(), OutOfMemory>
     ensures { IfOk result (λ _. numbers.new.items ≡ numbers.old.items ++ cond wanted (number ∷ []) []) }
 {
     if wanted {
@@ -159,9 +154,9 @@ fn push_where(numbers: &mut Vec<u32>, number: u32, wanted: bool) -> Result<(), A
     Ok(())
 }
 
-// the numbers of the rows that start with a gate of this kind
-fn numbers_of(alloc: Global, rows: &[Row], of_kind: u8) -> Result<Vec<u32>, AllocError>
-    requires { length rows.now ≤ 308 }
+// the numbers of the rows that start with a gate of the kind of this number
+fn numbers_of(alloc: Global, rows: &[Row], of_kind: u8) -> Result<Vec<u32>, OutOfMemory>
+    requires { length rows.now ≤ MAX_ROWS }
     ensures { IfOk result (λ numbers. numbers.items ≡ numbers_starting of_kind 1 rows.now) }
 {
     let mut numbers = Vec::new(alloc);
@@ -174,10 +169,10 @@ fn numbers_of(alloc: Global, rows: &[Row], of_kind: u8) -> Result<Vec<u32>, Allo
 }
 
 // the same for each kind
-fn index_of(alloc: Global, rows: &[Row]) -> Result<Vec<Vec<u32>>, AllocError>
-    requires { length rows.now ≤ 308 }
-    ensures len { IfOk result (λ index. vec_len index ≡ 10) }
-    ensures numbers { IfOk result (λ index. (k : ℕ) (d : _) → k < 10 → (slice_index_or index.items k d).items ≡ numbers_starting k 1 rows.now) }
+fn index_of(alloc: Global, rows: &[Row]) -> Result<Vec<Vec<u32>>, OutOfMemory>
+    requires { length rows.now ≤ MAX_ROWS }
+    ensures len { IfOk result (λ index. vec_len index ≡ KINDS) }
+    ensures numbers { IfOk result (λ index. (k : ℕ) (d : _) → k < KINDS → (slice_index_or index.items k d).items ≡ numbers_starting k 1 rows.now) }
 {
     let mut index = Vec::with_capacity(alloc, KINDS as usize)?;
     for of_kind in 0..KINDS {
@@ -187,7 +182,7 @@ fn index_of(alloc: Global, rows: &[Row]) -> Result<Vec<Vec<u32>>, AllocError>
 }
 
 // the row whose sides stand at the places of a shape
-fn row_of(alloc: Global, shape: &Shape) -> Result<Row, AllocError>
+fn row_of(alloc: Global, shape: &Shape) -> Result<Row, OutOfMemory>
     requires sound { IsSound (shape_row GATES shape.now) }
     requires inside { (shape.now.start ≤ shape.now.middle) × (shape.now.middle ≤ shape.now.end) × (shape.now.end ≤ length GATES) }
     ensures { IfOk result (λ row. row ≡ shape_row GATES shape.now) }

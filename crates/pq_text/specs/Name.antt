@@ -1,5 +1,6 @@
 -- The names of registers.
 use Rattle.std.specs.Prelude.{◌≡◌, ℕ, ◌≤◌, ◌⊎◌, List, [], ◌∷◌, length, slice_index, All, Contains, codes}
+use Rattle.pq_limits.specs.declared.TheConstants.{MAX_NAME}
 use Rattle.std.specs.Char.{IsAsciiLowercase, IsAsciiAlphanumeric}
 
 -- the words of the language, which are no names
@@ -20,7 +21,7 @@ pub record IsLawfulName (name : List ℕ) : Type 0 where
   pub bytes : All IsNameByte name
   pub free : ¬ Contains reserved_words name
 
--- a lawful name that a register may have: it has at most 64 bytes
+-- a lawful name that a register may have: it has at most MAX_NAME bytes
 pub record IsRegisterName (name : List ℕ) : Type 0 where
   pub lawful : IsLawfulName name
-  pub short : length name ≤ 64
+  pub short : length name ≤ MAX_NAME

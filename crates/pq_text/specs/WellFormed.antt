@@ -1,5 +1,6 @@
 -- Which programs there are.
 use Rattle.std.specs.Prelude.{◌≢◌, ℕ, ◌<◌, ◌≤◌, List, ◌++◌, length, All, AllPairs}
+use Rattle.pq_limits.specs.declared.TheConstants.{MAX_QUBITS, MAX_BITS, MAX_GATES, MAX_ENTRIES}
 use Rattle.pq_gate.specs.Circuit.{IsCircuit}
 use Rattle.pq_text.specs.Name.{IsRegisterName}
 use Rattle.pq_text.specs.Program.{RegisterView, TailView, Barrier, Measure, ProgramView, places_of, entries_of}
@@ -29,9 +30,9 @@ IsTailEntry n m (Measure wire bit) = IsMeasurement n m wire bit
 pub record WellFormed (p : ProgramView) : Type 0 where
   pub registers : All IsRegister (p.qregs ++ p.cregs)
   pub names : AllPairs (λ q r. q.name ≢ r.name) (p.qregs ++ p.cregs)
-  pub qubits : places_of p.qregs ≤ 4096
-  pub bits : places_of p.cregs ≤ 4096
+  pub qubits : places_of p.qregs ≤ MAX_QUBITS
+  pub bits : places_of p.cregs ≤ MAX_BITS
   pub circuit : IsCircuit (places_of p.qregs) p.gates
-  pub gates : length p.gates ≤ 1048576
+  pub gates : length p.gates ≤ MAX_GATES
   pub tail : All (IsTailEntry (places_of p.qregs) (places_of p.cregs)) p.tail
-  pub entries : entries_of p.tail ≤ 1048576
+  pub entries : entries_of p.tail ≤ MAX_ENTRIES

@@ -19,7 +19,7 @@ use Rattle.pq_match.specs.Redex.{RedexView, IsRedex, IsWithin, AreFree, gate_at,
 use Rattle.pq_match.specs.First.{IsFirst, HasNoneWithin}
 use Rattle.pq_loop.specs.Round.{run}
 use Rattle.pq_loop.specs.Opt.{Local}
-use Rattle.pq_loop.proofs.Redexes.{shifted, later_redex, redex_in_longer}
+use Rattle.pq_method.proofs.Redexes.{shifted, later_redex, redex_in_longer}
 use Rattle.pq_top.specs.Outputs.{redex_line, local_line, IsCheckText}
 
 -- the gates before a run, those of the run, and those after it
@@ -72,7 +72,7 @@ none_is_local rules w gates none from to up in_list most redex is =
     let P : List Gate → Type 0 = λ l. IsRedex rules l (later_redex k redex) in
     let long : length (run gates from to) ≤ w = omega (arith, length-take (to - from) (drop from gates), most) in
     let last : last_place redex.places < length (run gates from to) = last_below (length (run gates from to)) redex.places is.matches.inside is.some in
-    none (later_redex k redex)
+    none.none (later_redex k redex)
     (subst P (sym whole) (redex_in_longer rules (take from gates) (run gates from to) (drop (to - from) (drop from gates)) redex is))
     (span_shifted k w redex.places is.some (omega (arith, long, last)))
 
@@ -219,7 +219,7 @@ names_redex w text output options p rules gates redex is rules_are read found wr
     record {
       redex = seen redex found.wires;
       first = first;
-      not_local = redex_not_local builtin_rows w p.gates.items (seen redex found.wires) first.is first.within;
+      not_local = redex_not_local builtin_rows w p.gates.items (seen redex found.wires) first.is first.among;
       written = written found.wires;
     },
   );

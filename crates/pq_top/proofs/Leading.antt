@@ -1,59 +1,47 @@
 -- Rounds that were made, and those that are still to come.
-use Rattle.std.proofs.Common.{◌≡◌, ℕ, ◌+◌, ◌%◌, ◌<◌, Bool, true, false, List, [], ◌∷◌, length, refl, sym, ◌∙◌, subst, arith}
+use Rattle.std.proofs.Common.{◌≡◌, ℕ, ◌+◌, ◌%◌, ◌<◌, Bool, true, false, List, [], ◌∷◌, ◌++◌, length, refl, sym, ◌∙◌, subst, arith, append_assoc}
 use Rattle.std.specs.Prelude.{IsTrue}
+use Rattle.std.proofs.lemmas.List.{append-nil, length-append}
+use Rattle.std.proofs.lemmas.List.Sums.{sum_by-append}
 use Rattle.pq_gate.specs.declared.gate.Gate.{Gate}
 use Rattle.pq_rules.specs.Row.{RowView}
+use Rattle.pq_method.specs.declared.step.Step.{Step}
+use Rattle.pq_loop.specs.Opt.{Total, RoundNumbers, numbers_of, calls_of, phase_of, no_rounds, after_round, Rounds, done, round, first_state, Opt}
 use Rattle.pq_loop.specs.declared.looping.Finished.{Finished}
-use Rattle.pq_loop.specs.declared.one_round.Step.{Step}
 use Rattle.pq_loop.specs.Gaps.{first_fingers}
 use Rattle.pq_loop.specs.Loops.{LoopView}
 use Rattle.pq_loop.specs.Round.{State, Round}
-use Rattle.pq_loop.specs.Opt.{Total, settled, after_round, Rounds, done, round, first_state, Opt}
-use Rattle.pq_top.specs.Outputs.{total_of}
+use Rattle.pq_loop.specs.Counted.{IsEndOf}
 
--- what rounds leave, with the numbers of the loop's rounds in front
-abbrev pub with_rounds : LoopView → Total → Total
-with_rounds loop total = record {
-  gates = total.gates;
-  rounds = loop.rounds + total.rounds;
-  calls = loop.calls + total.calls;
-  phase = (loop.phase + total.phase) % 8;
-}
+-- what rounds leave, with these rounds in front
+abbrev pub with_rounds : List RoundNumbers → Total → Total
+with_rounds made total = record { gates = total.gates; rounds = made ++ total.rounds }
 
--- Whatever rounds make of the loop's state, with the loop's own rounds in front it is what the optimiser makes of
--- the gates.
-abbrev pub LeadsTo : List RowView → ℕ → List Gate → LoopView → Type 0
-LeadsTo rules w gates loop = (total : Total) → Rounds rules w loop.state total → Opt rules w gates (with_rounds loop total)
+-- Whatever rounds make of the state, with these rounds in front it is what the optimiser makes of the gates.
+abbrev pub LeadsTo : List RowView → ℕ → List Gate → State → List RoundNumbers → Type 0
+LeadsTo rules w gates state made = (total : Total) → Rounds rules w state total → Opt rules w gates (with_rounds made total)
 
--- The loop is on its way from the first fingers of the gates.
+-- The loop is on its way from the first fingers of the gates, and counted the rounds that it made.
 pub record IsOnItsWay (rules : List RowView) (w : ℕ) (gates : List Gate) (loop : LoopView) : Type 0 where
-  pub leads : LeadsTo rules w gates loop
-  pub turn : loop.phase < 8
+  pub made : List RoundNumbers
+  pub leads : LeadsTo rules w gates loop.state made
+  pub rounds : loop.rounds ≡ length made
+  pub calls : loop.calls ≡ calls_of made
+  pub phase : loop.phase ≡ phase_of made
   pub window_is : loop.omega ≡ w
   pub rules_are : loop.rules ≡ rules
   pub first_fingers_are : loop.first_fingers ≡ length (first_fingers (length gates) w)
-
-abbrev totals : List Gate → ℕ → ℕ → ℕ → Total
-totals gates rounds calls phase = record { gates = gates; rounds = rounds; calls = calls; phase = phase }
-
-same_totals : {gates others : List Gate} {rounds calls phase r c p : ℕ} → gates ≡ others → rounds ≡ r → calls ≡ c → phase ≡ p →
-    totals gates rounds calls phase ≡ totals others r c p
-same_totals gates_are rounds_are calls_are phase_is = λ i. totals (gates_are i) (rounds_are i) (calls_are i) (phase_is i)
-
-total_turn : (rules : List RowView) (w : ℕ) (state : State) (total : Total) → Rounds rules w state total → total.phase < 8
-total_turn rules w _ _ (done gates) = omega arith
-total_turn rules w _ _ (round before after step total some one rest) = omega arith
 
 -- before the first round
 pub first_on_its_way : (rules : List RowView) (w : ℕ) (gates : List Gate) (loop : LoopView) → loop.state ≡ first_state w gates →
     loop.omega ≡ w → loop.rules ≡ rules → (loop.rounds ≡ 0) × (loop.calls ≡ 0) × (loop.phase ≡ 0) →
     loop.first_fingers ≡ length (first_fingers (length gates) w) → IsOnItsWay rules w gates loop
 first_on_its_way rules w gates loop state window_is rules_are counts first_are = record {
-  leads = λ total rest.
-      subst (Opt rules w gates)
-      (same_totals refl (omega (arith, counts.0)) (omega (arith, counts.1)) (omega (arith, counts.2, total_turn rules w loop.state total rest)))
-      (subst (λ (s : State). Rounds rules w s total) state rest);
-  turn = omega (arith, counts.2);
+  made = [];
+  leads = λ total rest. subst (λ (s : State). Rounds rules w s total) state rest;
+  rounds = counts.0;
+  calls = counts.1;
+  phase = counts.2;
   window_is = window_is;
   rules_are = rules_are;
   first_fingers_are = first_are;
@@ -66,16 +54,22 @@ pub next_on_its_way : (rules : List RowView) (w : ℕ) (gates : List Gate) (befo
     after.rounds ≡ before.rounds + 1 → after.calls ≡ before.calls + step.selected → after.phase ≡ (before.phase + step.phase) % 8 →
     IsOnItsWay rules w gates after
 next_on_its_way rules w gates before after step way some one settings rounds_are calls_are phase_is = record {
+  made = way.made ++ numbers ∷ [];
   leads = λ total rest.
-      subst (Opt rules w gates)
-      (same_totals refl (omega (arith, rounds_are)) (omega (arith, calls_are)) (omega (arith, phase_is)))
-      (way.leads (after_round step total) (round before.state after.state step total some here rest));
-  turn = omega (arith, phase_is);
+      subst (λ (rounds : List RoundNumbers). Opt rules w gates (record { gates = total.gates; rounds = rounds }))
+      (sym (append_assoc way.made (numbers ∷ []) total.rounds))
+      (way.leads (after_round numbers total) (round before.state after.state step total some here rest));
+  rounds = omega (arith, rounds_are, way.rounds, length-append way.made (numbers ∷ []));
+  calls = omega (arith, calls_are, way.calls, sum_by-append (λ (made : RoundNumbers). made.step.selected) way.made (numbers ∷ []));
+  phase = omega (arith, phase_is, way.phase, sum_by-append (λ (made : RoundNumbers). made.step.phase) way.made (numbers ∷ []));
   window_is = settings.0 ∙ way.window_is;
   rules_are = settings.1 ∙ way.rules_are;
   first_fingers_are = settings.2 ∙ way.first_fingers_are;
 }
   where
+    numbers : RoundNumbers
+    numbers = numbers_of before.state after.state step
+
     here : Round rules w before.state after.state step
     here = subst (λ (rs : List RowView). Round rs w before.state after.state step) way.rules_are
         (subst (λ (n : ℕ). Round before.rules n before.state after.state step) way.window_is one)
@@ -84,14 +78,21 @@ next_on_its_way rules w gates before after step way some one settings rounds_are
 pub led_to_end : (rules : List RowView) (w : ℕ) (gates : List Gate) (loop : LoopView) (finished : Finished) → IsOnItsWay rules w gates loop →
     loop.state.fingers ≡ [] → finished.gates.items ≡ loop.state.gates →
     (finished.rounds ≡ loop.rounds) × (finished.calls ≡ loop.calls) × (finished.phase ≡ loop.phase) × (finished.first_fingers ≡ loop.first_fingers) →
-    Opt rules w gates (total_of finished)
-led_to_end rules w gates loop finished way none gates_are counts =
-    subst (Opt rules w gates)
-    (same_totals (sym gates_are) (omega (arith, counts.0)) (omega (arith, counts.1)) (omega (arith, counts.2, way.turn)))
-    (way.leads (settled loop.state.gates) ends)
+    IsEndOf rules w gates finished
+led_to_end rules w gates loop finished way none gates_are counts = record {
+  total = record { gates = loop.state.gates; rounds = way.made };
+  opt = subst (λ (rounds : List RoundNumbers). Opt rules w gates (record { gates = loop.state.gates; rounds = rounds }))
+      (append-nil way.made) (way.leads (no_rounds loop.state.gates) ends);
+  counted = record {
+    gates = gates_are;
+    rounds = counts.0 ∙ way.rounds;
+    calls = counts.1 ∙ way.calls;
+    phase = counts.2 ∙ way.phase;
+  };
+}
   where
-    ends : Rounds rules w loop.state (settled loop.state.gates)
-    ends = subst (λ (fingers : List ℕ). Rounds rules w (record { gates = loop.state.gates; fingers = fingers }) (settled loop.state.gates)) (sym none)
+    ends : Rounds rules w loop.state (no_rounds loop.state.gates)
+    ends = subst (λ (fingers : List ℕ). Rounds rules w (record { gates = loop.state.gates; fingers = fingers }) (no_rounds loop.state.gates)) (sym none)
         (done loop.state.gates)
 
 -- where the loop isn't done there is a finger

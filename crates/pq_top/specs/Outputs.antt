@@ -1,6 +1,7 @@
 -- What each command makes of the program that is read, or generated.
 use Rattle.std.specs.Prelude.{◌≡◌, ℕ, ◌+◌, ◌-◌, ◌*◌, ◌≤◌, ◌⊎◌, List, ◌++◌, length, codes, decimal}
 use Rattle.std.specs.List.{flat_map}
+use Rattle.pq_limits.specs.declared.TheConstants.{MAX_INPUT}
 use Rattle.pq_gate.specs.declared.gate.Gate.{Gate}
 use Rattle.pq_gate.specs.Circuit.{IsCircuit}
 use Rattle.pq_gate.specs.Matrix.{Same}
@@ -12,36 +13,22 @@ use Rattle.pq_rules.specs.Table.{builtin_rows}
 use Rattle.pq_match.specs.Redex.{RedexView}
 use Rattle.pq_match.specs.First.{IsFirst, HasNoneWithin}
 use Rattle.pq_loop.specs.Gaps.{first_fingers}
-use Rattle.pq_loop.specs.Opt.{Total, Opt, Local}
-use Rattle.pq_loop.specs.declared.looping.Finished.{Finished}
-use Rattle.pq_write.specs.declared.report.Report.{Report}
+use Rattle.pq_loop.specs.Opt.{Total, calls_of, phase_of, Opt, Local}
+use Rattle.pq_write.specs.declared.report.ReportNumbers.{ReportNumbers}
 use Rattle.pq_write.specs.Report.{report_text}
 use Rattle.pq_generate.specs.Generated.{generated}
 use Rattle.pq_command.specs.declared.settings.Settings.{Settings}
 use Rattle.pq_command.specs.declared.settings.Settings.TheVariants as settings
 
--- the most bytes that are accepted
-abbrev pub input_limit : ℕ
-input_limit = 67108864
-
 -- a text that is accepted when it is read in this way: it is within the limit, and stands for a program
 pub record IsAccepted (options : Options) (text : List ℕ) : Type 0 where
-  pub within : length text ≤ input_limit
+  pub within : length text ≤ MAX_INPUT
   pub program : ProgramView
   pub read : Reads text options program
 
 -- the program with these gates in place of its own
 abbrev pub with_gates : ProgramView → List Gate → ProgramView
 with_gates program gates = record program { gates = gates }
-
--- the gates that a finished loop left, with its numbers
-abbrev pub total_of : Finished → Total
-total_of finished = record {
-  gates = finished.gates.items;
-  rounds = finished.rounds;
-  calls = finished.calls;
-  phase = finished.phase;
-}
 
 -- Where the old gates are a circuit, so are the new ones, and the old ones' matrix is theirs turned by the phase.
 pub record KeepsMatrix (old new : List Gate) (phase : ℕ) : Type 0 where
@@ -52,19 +39,19 @@ pub record KeepsMatrix (old new : List Gate) (phase : ℕ) : Type 0 where
 -- gates that are left has a redex. The calls of the oracle are at most the first fingers and twice the removed gates.
 pub record IsOptimised (omega : ℕ) (program : ProgramView) (total : Total) : Type 0 where
   pub opt : Opt builtin_rows omega program.gates total
-  pub same : Same (places_of program.qregs) program.gates total.gates total.phase
+  pub same : Same (places_of program.qregs) program.gates total.gates (phase_of total.rounds)
   pub local : Local builtin_rows omega total.gates
-  pub bound : total.calls ≤ length (first_fingers (length program.gates) omega) + 2 * (length program.gates - length total.gates)
+  pub bound : calls_of total.rounds ≤ length (first_fingers (length program.gates) omega) + 2 * (length program.gates - length total.gates)
 
 -- the report on these gates and what rounds left of them
-abbrev pub report_of : ℕ → List Gate → Total → Report
+abbrev pub report_of : ℕ → List Gate → Total → ReportNumbers
 report_of omega gates total = record {
   gates_in = length gates;
   gates_out = length total.gates;
-  rounds = total.rounds;
-  calls = total.calls;
+  rounds = length total.rounds;
+  calls = calls_of total.rounds;
   first_fingers = length (first_fingers (length gates) omega);
-  phase = total.phase;
+  phase = phase_of total.rounds;
 }
 
 -- The text stands for a program. The output is the canonical text of the same program with the gates that rounds

@@ -1,10 +1,10 @@
 -- The text of a report, number by number.
 use Rattle.std.proofs.Common.{◌≡◌, List, ℕ, ◌++◌, codes, decimal, append_assoc}
-use Rattle.pq_write.specs.declared.report.Report.{Report}
+use Rattle.pq_write.specs.declared.report.ReportNumbers.{ReportNumbers}
 use Rattle.pq_write.specs.Report.{report_text}
 
 -- what is appended number by number
-pub reported : (before one two three four five six all : List ℕ) (report : Report)
+pub reported : (before one two three four five six all : List ℕ) (report : ReportNumbers)
     → one ≡ before ++ (codes "// gates " ++ decimal report.gates_in)
     → two ≡ one ++ (codes " " ++ decimal report.gates_out)
     → three ≡ two ++ (codes "\n// rounds " ++ decimal report.rounds)

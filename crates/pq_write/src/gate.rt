@@ -6,11 +6,11 @@ ghost use Rattle.pq_text.specs.Print.{gate_line, place};
 
 use crate::places::Places;
 use pq_gate::{Eighths, Gate};
-use std::alloc::AllocError;
+use pq_io::OutOfMemory;
 
 // Appends a word with the space after it, the wire, and the end of the line.
 #[inline(always)]
-fn push_one(out: &mut Vec<u8>, word: &[u8], wires: &Places, wire: u32) -> Result<(), AllocError>
+fn push_one(out: &mut Vec<u8>, word: &[u8], wires: &Places, wire: u32) -> Result<(), OutOfMemory>
     requires { wire < places_of wires.now }
     ensures { OnOk result
         (out.new.items ≡ out.old.items ++ (word.now ++ (place wires.now wire ++ codes ";\n"))) }
@@ -22,7 +22,7 @@ fn push_one(out: &mut Vec<u8>, word: &[u8], wires: &Places, wire: u32) -> Result
 
 /// Appends the line of a gate.
 #[inline]
-pub fn push_gate_line(out: &mut Vec<u8>, wires: &Places, gate: Gate) -> Result<(), AllocError>
+pub fn push_gate_line(out: &mut Vec<u8>, wires: &Places, gate: Gate) -> Result<(), OutOfMemory>
     requires { IsOnWires (places_of wires.now) gate }
     ensures { OnOk result (out.new.items ≡ out.old.items ++ gate_line wires.now gate) }
 {
@@ -45,7 +45,7 @@ pub fn push_gate_line(out: &mut Vec<u8>, wires: &Places, gate: Gate) -> Result<(
 }
 
 /// Appends the lines of gates.
-pub fn push_gate_lines(out: &mut Vec<u8>, wires: &Places, gates: &[Gate]) -> Result<(), AllocError>
+pub fn push_gate_lines(out: &mut Vec<u8>, wires: &Places, gates: &[Gate]) -> Result<(), OutOfMemory>
     requires { IsCircuit (places_of wires.now) gates.now }
     ensures { OnOk result (out.new.items ≡ out.old.items ++ flat_map (gate_line wires.now) gates.now) }
 {

@@ -5,6 +5,7 @@
 mod gate;
 mod laws;
 mod length;
+mod number;
 mod places;
 mod program;
 mod register;
@@ -12,8 +13,9 @@ mod report;
 mod tail;
 
 pub use laws::texts_are_read_back;
+pub use number::push_number;
 pub use program::{write_program, write_with_report};
-pub use report::{Report, write_report};
+pub use report::{ReportNumbers, write_report};
 
 #[cfg(test)]
 mod tests;

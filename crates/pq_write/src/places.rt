@@ -6,8 +6,10 @@ ghost use Rattle.pq_read.specs.Environment.{register_view};
 ghost use Rattle.pq_write.specs.Table.{IsTableOf};
 
 use crate::register::push_indexed;
+use pq_io::OutOfMemory;
+use pq_limits::{MAX_NAME, MAX_PLACES};
 use pq_read::Register;
-use std::alloc::{AllocError, Global};
+use std::alloc::Global;
 use std::marker::Model;
 
 // Where a text lies among the bytes.
@@ -29,9 +31,9 @@ impl Table {
     ghost use Rattle.pq_write.specs.Table.{IsLaid, texts_of, texts_in};
 
     // Appends the text `NAME[INDEX]`.
-    fn push(&mut self, name: &[u8], index: u32) -> Result<(), AllocError>
-        requires room { vec_len self.old.extents < 4096 }
-        requires short { length name.now ≤ 64 }
+    fn push(&mut self, name: &[u8], index: u32) -> Result<(), OutOfMemory>
+        requires room { vec_len self.old.extents < MAX_PLACES }
+        requires short { length name.now ≤ MAX_NAME }
         requires laid { IsLaid self.old }
         ensures laid { OnOk result (IsLaid self.new) }
         ensures count { OnOk result (vec_len self.new.extents ≡ vec_len self.old.extents + 1) }
@@ -46,9 +48,9 @@ impl Table {
     }
 
     // Appends the texts of the places of a register.
-    fn push_register(&mut self, register: &Register) -> Result<(), AllocError>
-        requires room { vec_len self.old.extents + register.now.size ≤ 4096 }
-        requires short { length register.now.name ≤ 64 }
+    fn push_register(&mut self, register: &Register) -> Result<(), OutOfMemory>
+        requires room { vec_len self.old.extents + register.now.size ≤ MAX_PLACES }
+        requires short { length register.now.name ≤ MAX_NAME }
         requires laid { IsLaid self.old }
         ensures laid { OnOk result (IsLaid self.new) }
         ensures count { OnOk result
@@ -65,9 +67,9 @@ impl Table {
 }
 
 // The texts of the places of some registers.
-fn table_of(alloc: Global, registers: &[Register]) -> Result<Table, AllocError>
+fn table_of(alloc: Global, registers: &[Register]) -> Result<Table, OutOfMemory>
     requires each { All IsRegister (map register_view registers.now) }
-    requires limit { places_of (map register_view registers.now) ≤ 4096 }
+    requires limit { places_of (map register_view registers.now) ≤ MAX_PLACES }
     ensures { IfOk result (λ table. IsTableOf (map register_view registers.now) table) }
 {
     let mut table = Table {
@@ -102,9 +104,9 @@ impl<'a> Model for Places<'a> {
 
 impl<'a> Places<'a> {
     /// The registers with the texts of their places.
-    pub fn of(alloc: Global, registers: &'a [Register]) -> Result<Places<'a>, AllocError>
+    pub fn of(alloc: Global, registers: &'a [Register]) -> Result<Places<'a>, OutOfMemory>
         requires each { All IsRegister (map register_view registers.now) }
-        requires limit { places_of (map register_view registers.now) ≤ 4096 }
+        requires limit { places_of (map register_view registers.now) ≤ MAX_PLACES }
         ensures { IfOk result (λ places. places ≡ map register_view registers.entry.now) }
     {
         let table = table_of(alloc, registers)?;

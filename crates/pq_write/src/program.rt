@@ -8,11 +8,11 @@ use crate::gate::push_gate_lines;
 use crate::length::text_length;
 use crate::places::Places;
 use crate::register::push_register_lines;
-use crate::report::{REPORT_ROOM, Report, push_report};
+use crate::report::{REPORT_ROOM, ReportNumbers, push_report};
 use crate::tail::push_tail_lines;
-use pq_io::ByteList;
+use pq_io::{ByteList, OutOfMemory};
 use pq_read::Program;
-use std::alloc::{AllocError, Global};
+use std::alloc::Global;
 
 /// The two lines that each text begins with.
 pub const HEADER: &[u8] = b"OPENQASM 2.0;\ninclude \"qelib1.inc\";\n";
@@ -23,7 +23,7 @@ fn push_program(
     program: &Program,
     wires: &Places,
     bits: &Places,
-) -> Result<(), AllocError>
+) -> Result<(), OutOfMemory>
     requires well_formed { WellFormed (view program.now) }
     requires wires { wires.now ≡ map register_view program.now.qregs.items }
     requires bits { bits.now ≡ map register_view program.now.cregs.items }
@@ -39,7 +39,7 @@ fn push_program(
 
 // The text of a program, in memory with room for so many bytes after it. The room is taken once, beside that
 // for the texts of the places.
-fn text_with_room(alloc: Global, program: &Program, after: usize) -> Result<Vec<u8>, AllocError>
+fn text_with_room(alloc: Global, program: &Program, after: usize) -> Result<Vec<u8>, OutOfMemory>
     requires well_formed { WellFormed (view program.now) }
     requires few { after ≤ REPORT_ROOM }
     ensures { IfOk result (λ text. text.items ≡ print (view program.now)) }
@@ -53,7 +53,7 @@ fn text_with_room(alloc: Global, program: &Program, after: usize) -> Result<Vec<
 }
 
 /// The canonical text of a program. Room for it is taken once, beside that for the texts of the places.
-pub fn write_program(alloc: Global, program: &Program) -> Result<ByteList, AllocError>
+pub fn write_program(alloc: Global, program: &Program) -> Result<ByteList, OutOfMemory>
     requires { WellFormed (view program.now) }
     ensures { IfOk result (λ text. text.items ≡ print (view program.now)) }
 {
@@ -66,8 +66,8 @@ pub fn write_program(alloc: Global, program: &Program) -> Result<ByteList, Alloc
 pub fn write_with_report(
     alloc: Global,
     program: &Program,
-    report: &Report,
-) -> Result<ByteList, AllocError>
+    report: &ReportNumbers,
+) -> Result<ByteList, OutOfMemory>
     requires { WellFormed (view program.now) }
     ensures { IfOk result (λ text. text.items
         ≡ print (view program.now) ++ report_text report.now) }

@@ -3,24 +3,26 @@ ghost use Rattle.std.specs.List.{flat_map};
 ghost use Rattle.pq_text.specs.Print.{indexed, register_line};
 ghost use Rattle.pq_read.specs.Environment.{register_view};
 
-use itoa::Buffer;
+use crate::number::push_number;
+use pq_io::OutOfMemory;
 use pq_read::Register;
-use std::alloc::AllocError;
 
 /// Appends the text `NAME[INDEX]`.
-pub fn push_indexed(out: &mut Vec<u8>, name: &[u8], index: u32) -> Result<(), AllocError>
+pub fn push_indexed(out: &mut Vec<u8>, name: &[u8], index: u32) -> Result<(), OutOfMemory>
     ensures { OnOk result (out.new.items ≡ out.old.items ++ indexed name.now index) }
 {
-    let mut buffer = Buffer::new();
     out.extend_from_slice(name)?;
-    out.push(b'[')?;
-    out.extend_from_slice(buffer.format(index).as_bytes())?;
+    push_number(out, b"[", u64::from(index))?;
     out.push(b']')?;
     Ok(())
 }
 
 // Appends the line that declares a register, with the word `qreg` or `creg` in front.
-fn push_register_line(out: &mut Vec<u8>, word: &[u8], register: &Register) -> Result<(), AllocError>
+fn push_register_line(
+    out: &mut Vec<u8>,
+    word: &[u8],
+    register: &Register,
+) -> Result<(), OutOfMemory>
     ensures { OnOk result
         (out.new.items ≡ out.old.items ++ register_line word.now (register_view register.now)) }
 {
@@ -35,7 +37,7 @@ pub fn push_register_lines(
     out: &mut Vec<u8>,
     word: &[u8],
     registers: &[Register],
-) -> Result<(), AllocError>
+) -> Result<(), OutOfMemory>
     ensures { OnOk result (out.new.items ≡ out.old.items
         ++ flat_map (register_line word.now) (map register_view registers.now)) }
 {

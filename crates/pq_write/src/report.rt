@@ -1,13 +1,13 @@
-ghost use Rattle.std.specs.Prelude.{◌≡◌, ◌++◌, decimal, IfOk, OnOk};
+ghost use Rattle.std.specs.Prelude.{◌≡◌, ◌++◌, IfOk, OnOk};
 ghost use Rattle.pq_write.specs.Report.{report_text};
 
-use itoa::Buffer;
-use pq_io::ByteList;
-use std::alloc::{AllocError, Global};
+use crate::number::push_number;
+use pq_io::{ByteList, OutOfMemory};
+use std::alloc::Global;
 
 /// The numbers of a report on a run of the optimiser.
 #[derive(Clone, Copy, Debug, PartialEq, Eq)]
-pub struct Report {
+pub struct ReportNumbers {
     /// How many gates went in.
     pub gates_in: u64,
 
@@ -31,17 +31,8 @@ pub struct Report {
 /// for the phase.
 pub const REPORT_ROOM: usize = 163;
 
-// Appends a word and the digits of a number.
-fn push_number(out: &mut Vec<u8>, word: &[u8], number: u64) -> Result<(), AllocError>
-    ensures { OnOk result (out.new.items ≡ out.old.items ++ (word.now ++ decimal number)) }
-{
-    let mut buffer = Buffer::new();
-    out.extend_from_slice(word)?;
-    out.extend_from_slice(buffer.format(number).as_bytes())
-}
-
 /// Appends the text of a report.
-pub fn push_report(out: &mut Vec<u8>, report: &Report) -> Result<(), AllocError>
+pub fn push_report(out: &mut Vec<u8>, report: &ReportNumbers) -> Result<(), OutOfMemory>
     ensures { OnOk result (out.new.items ≡ out.old.items ++ report_text report.now) }
 {
     push_number(out, b"// gates ", report.gates_in)?;
@@ -55,7 +46,7 @@ pub fn push_report(out: &mut Vec<u8>, report: &Report) -> Result<(), AllocError>
 }
 
 /// The text of a report: five lines, each a comment. Room for it is taken once.
-pub fn write_report(alloc: Global, report: &Report) -> Result<ByteList, AllocError>
+pub fn write_report(alloc: Global, report: &ReportNumbers) -> Result<ByteList, OutOfMemory>
     ensures { IfOk result (λ text. text.items ≡ report_text report.now) }
 {
     let mut out = Vec::with_capacity(alloc, REPORT_ROOM)?;

@@ -6,8 +6,8 @@ ghost use Rattle.pq_text.specs.WellFormed.{IsTailEntry};
 ghost use Rattle.pq_read.specs.Environment.{item_view};
 
 use crate::places::Places;
+use pq_io::OutOfMemory;
 use pq_read::TailItem;
-use std::alloc::AllocError;
 
 /// The first number and the others.
 pub fn first_and_rest(numbers: &[u64]) -> Option<(u64, &[u64])>
@@ -21,7 +21,7 @@ pub fn first_and_rest(numbers: &[u64]) -> Option<(u64, &[u64])>
 }
 
 // Appends a comma and a wire.
-fn push_next_wire(out: &mut Vec<u8>, wires: &Places, wire: u64) -> Result<(), AllocError>
+fn push_next_wire(out: &mut Vec<u8>, wires: &Places, wire: u64) -> Result<(), OutOfMemory>
     requires { wire < places_of wires.now }
     ensures { OnOk result (out.new.items ≡ out.old.items ++ 44 ∷ place wires.now wire) }
 {
@@ -30,7 +30,7 @@ fn push_next_wire(out: &mut Vec<u8>, wires: &Places, wire: u64) -> Result<(), Al
 }
 
 // Appends wires with a comma in front of each.
-fn push_next_wires(out: &mut Vec<u8>, wires: &Places, more: &[u64]) -> Result<(), AllocError>
+fn push_next_wires(out: &mut Vec<u8>, wires: &Places, more: &[u64]) -> Result<(), OutOfMemory>
     requires { All (λ w. w < places_of wires.now) more.now }
     ensures { OnOk result
         (out.new.items ≡ out.old.items ++ flat_map (λ w. 44 ∷ place wires.now w) more.now) }
@@ -42,7 +42,7 @@ fn push_next_wires(out: &mut Vec<u8>, wires: &Places, more: &[u64]) -> Result<()
 }
 
 // Appends wires with a comma between each two.
-fn push_wires(out: &mut Vec<u8>, wires: &Places, numbers: &[u64]) -> Result<(), AllocError>
+fn push_wires(out: &mut Vec<u8>, wires: &Places, numbers: &[u64]) -> Result<(), OutOfMemory>
     requires { All (λ w. w < places_of wires.now) numbers.now }
     ensures { OnOk result
         (out.new.items ≡ out.old.items ++ join_with_byte 44 (map (place wires.now) numbers.now)) }
@@ -62,7 +62,7 @@ fn push_tail_line(
     wires: &Places,
     bits: &Places,
     item: &TailItem,
-) -> Result<(), AllocError>
+) -> Result<(), OutOfMemory>
     requires { IsTailEntry (places_of wires.now) (places_of bits.now) (item_view item.now) }
     ensures { OnOk result
         (out.new.items ≡ out.old.items ++ tail_line wires.now bits.now (item_view item.now)) }
@@ -88,7 +88,7 @@ pub fn push_tail_lines(
     wires: &Places,
     bits: &Places,
     items: &[TailItem],
-) -> Result<(), AllocError>
+) -> Result<(), OutOfMemory>
     requires { All (IsTailEntry (places_of wires.now) (places_of bits.now)) (map item_view items.now) }
     ensures { OnOk result (out.new.items ≡ out.old.items
         ++ flat_map (tail_line wires.now bits.now) (map item_view items.now)) }

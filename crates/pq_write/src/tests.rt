@@ -4,9 +4,9 @@ ghost use Rattle.pq_read.specs.Environment.{view};
 
 use crate::program::HEADER;
 use crate::report::REPORT_ROOM;
-use crate::{Report, write_program, write_report, write_with_report};
+use crate::{ReportNumbers, write_program, write_report, write_with_report};
 use pq_io::ByteList;
-use pq_lex::MAX_TEXT;
+use pq_limits::MAX_INPUT;
 use pq_read::{Options, Program, read_text};
 use std::alloc::{AllocError, Global};
 
@@ -14,7 +14,7 @@ use std::alloc::{AllocError, Global};
 fn read(alloc: Global, text: &[u8]) -> Option<Program>
     ensures { IfSome result (λ p. WellFormed (view p)) }
 {
-    if text.len() > MAX_TEXT {
+    if text.len() as u64 > MAX_INPUT {
         return None;
     }
     let options = Options {
@@ -124,7 +124,7 @@ fn texts_of_users_are_written_the_same_once_written(rt: HostRuntime) {
     }
 }
 
-const RUN: Report = Report {
+const RUN: ReportNumbers = ReportNumbers {
     gates_in: 1_048_576,
     gates_out: 62_034,
     rounds: 17,
@@ -140,7 +140,7 @@ const RUN_WRITTEN: &[u8] = b"// gates 1048576 62034
 // phase 7
 ";
 
-const LONGEST: Report = Report {
+const LONGEST: ReportNumbers = ReportNumbers {
     gates_in: u64::MAX,
     gates_out: u64::MAX,
     rounds: u64::MAX,

@@ -6,21 +6,9 @@ use Rattle.pq_command.specs.CommandLine.{app, bare, flag_rule, option_rule, word
 use Rattle.pq_command.specs.declared.fault.Switch.TheVariants.{Omega, Workers, DropBarriers, Seed, Qubits, Gates}
 use Rattle.pq_command.proofs.line.command_line.Goals as goal
 
-abbrev with_words_alone : App → App
-with_words_alone = on_top (λ s. record s { no_binary_name = true })
-
-abbrev without_help : App → App
-without_help = on_top (λ s. record s { disable_help_flag = true })
-
-abbrev without_version : App → App
-without_version = on_top (λ s. record s { disable_version_flag = true })
-
 pub returns : goal.returns
 returns c =
-    let named : app_of c.no_binary_name.result ≡ with_words_alone (new_app (codes "popqc")) = ap app_of_fields c.no_binary_name.ensures ∙ ap with_words_alone c.new.ensures.app in
-    let helpless : app_of c.disable_help_flag.result ≡ without_help (with_words_alone (new_app (codes "popqc"))) = ap app_of_fields c.disable_help_flag.ensures ∙ ap without_help named in
-    let bare_is : app_of c.disable_version_flag.result ≡ bare = ap app_of_fields c.disable_version_flag.ensures ∙ ap without_version helpless in
-    let one : app_of c.in_ok-arg.field-0 ≡ with_rule bare (word_rule (codes "command")) = c.in_ok-arg.ensures.shape c.word.ensures.local ∙ ap₂ with_rule bare_is c.word.ensures.rule in
+    let one : app_of c.in_ok-arg.field-0 ≡ with_rule bare (word_rule (codes "command")) = c.in_ok-arg.ensures.shape c.word.ensures.local ∙ ap₂ with_rule c.bare_command.ensures c.word.ensures.rule in
     let two = c.in_ok-arg-2.ensures.shape c.option.ensures.local ∙ ap₂ with_rule one c.option.ensures.rule in
     let three = c.in_ok-arg-3.ensures.shape c.option-2.ensures.local ∙ ap₂ with_rule two c.option-2.ensures.rule in
     let four = c.in_ok-arg-4.ensures.shape c.flag.ensures.local ∙ ap₂ with_rule three c.flag.ensures.rule in

@@ -1,7 +1,7 @@
 use Rattle.std.proofs.Common.{eqb, ◌∙◌}
 use Rattle.std.proofs.lemmas.List.Filters.{dedup_is}
 use Rattle.pq_finger.proofs.Moving.{dedup_ascending}
-use Rattle.pq_finger.proofs.Putting.{increasing-ascending}
+use Rattle.pq_gaps.proofs.Putting.{increasing-ascending}
 use Rattle.pq_finger.proofs.fingers.drop_repeats.Goals as goal
 
 pub returns-clause-kept : goal.returns-clause-kept

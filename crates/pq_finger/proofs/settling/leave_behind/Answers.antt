@@ -5,7 +5,7 @@ use Rattle.std.proofs.lemmas.List.{get_or_default}
 use Rattle.pq_finger.specs.declared.cut.Cut.{Cut}
 use Rattle.pq_finger.specs.Settled.{new_places}
 use Rattle.pq_finger.specs.Settling.{IsBefore}
-use Rattle.pq_finger.proofs.Putting.{increasing-ascending}
+use Rattle.pq_gaps.proofs.Putting.{increasing-ascending}
 use Rattle.pq_finger.proofs.Halfway.{stays, IsAtFinger-stays, IsAtFinger-passes}
 use Rattle.pq_finger.proofs.settling.leave_behind.Goals as goal
 use Rattle.pq_finger.proofs.settling.leave_behind.Goals.{else-behind-cuts-via-then-behind-cuts+else-is_before, else-behind-cuts-via-else-behind-cuts}

@@ -1,6 +1,6 @@
 use Rattle.std.proofs.Common.{◌∙◌, arith}
 use Rattle.std.proofs.lemmas.List.{get_or_default}
-use Rattle.pq_finger.proofs.Rising.{put_again, put_behind}
+use Rattle.pq_gaps.proofs.Rising.{put_again, put_behind}
 use Rattle.pq_finger.proofs.settling.put.Goals as goal
 use Rattle.pq_finger.proofs.settling.put.Goals.{in_default-via-in-Some+else-last-place, in_default-via-in_default}
 

@@ -1,4 +1,4 @@
-use Rattle.pq_finger.proofs.Putting.{put_edges, up_to_to_then, increasing_then}
+use Rattle.pq_finger.proofs.Edges.{put_edges, up_to_to_then, increasing_then}
 use Rattle.pq_finger.proofs.settling.put_boundaries.Goals as goal
 
 pub put_if-requires-2-clause-rising : goal.put_if-requires-2-clause-rising

@@ -2,9 +2,9 @@ use Rattle.std.proofs.Common.{◌≡◌, ◌+◌, ◌++◌, get_or, take, ap, �
 use Rattle.std.specs.List.{flat_map}
 use Rattle.std.proofs.lemmas.List.{get_or_default}
 use Rattle.pq_finger.specs.declared.cut.Cut.{Cut}
-use Rattle.pq_finger.specs.Gaps.{ascending}
+use Rattle.pq_gaps.specs.Gaps.{ascending}
 use Rattle.pq_finger.specs.Settled.{new_places}
-use Rattle.pq_finger.proofs.Putting.{increasing-ascending}
+use Rattle.pq_gaps.proofs.Putting.{increasing-ascending}
 use Rattle.pq_finger.proofs.Boundaries.{boundaries_more, boundaries_none, ahead_next}
 use Rattle.pq_finger.proofs.settling.settle_boundaries.Goals as goal
 

@@ -1,7 +1,7 @@
 use Rattle.std.proofs.Common.{◌++◌, take, sym, arith}
 use Rattle.std.specs.List.{flat_map, filter}
 use Rattle.pq_finger.specs.Settled.{new_places}
-use Rattle.pq_finger.proofs.Putting.{increasing-ascending}
+use Rattle.pq_gaps.proofs.Putting.{increasing-ascending}
 use Rattle.pq_finger.proofs.Halfway.{stays, no_cut, own_and_inside, SettledUpTo-puts}
 use Rattle.pq_finger.proofs.settling.settle_finger.Goals as goal
 use Rattle.pq_finger.proofs.settling.settle_finger.Goals.{else-behind-cuts-via-then-behind-cuts+else-drops, else-behind-cuts-via-else-behind-cuts}

@@ -2,7 +2,7 @@ use Rattle.std.proofs.Common.{◌∙◌, arith, get_or, length}
 use Rattle.std.specs.List.Sorted.{IsStrictlyIncreasing}
 use Rattle.pq_array.specs.Cells.{live}
 use Rattle.pq_array.proofs.Ranks.{length-live-le}
-use Rattle.pq_finger.specs.Gaps.{segment_from, segment_to}
+use Rattle.pq_gaps.specs.Gaps.{segment_from, segment_to}
 use Rattle.pq_loop.specs.Segments.{AreOfRun}
 use Rattle.pq_loop.proofs.Making.{behind_jobs, jobs_more, gaps_far}
 use Rattle.pq_loop.proofs.segments.jobs_of.Goals as goal
@@ -36,7 +36,7 @@ add-requires-clause-few c =
     omega (
       arith,
       c.loop-gap.invariant.jobs.count,
-      gaps_far c.args.omega c.args.gaps.now c.loop-gap.gap-index c.requires.least c.requires.apart c.loop-gap-test.true,
+      gaps_far c.args.omega c.args.gaps.now c.loop-gap.gap-index c.requires.omega.least c.requires.apart c.loop-gap-test.true,
       c.requires.inside c.loop-gap.gap-index 0 c.loop-gap-test.true,
       length-live-le c.args.array.now,
     )

@@ -1,8 +1,8 @@
 use Rattle.std.proofs.Common.{◌≡◌, ◌∙◌, ap, sym, List, ℕ, map}
 use Rattle.std.specs.Prelude.{slice_index}
 use Rattle.pq_array.specs.Cells.{rank}
-use Rattle.pq_finger.specs.Gaps.{selected}
-use Rattle.pq_finger.proofs.Selections.{selected_far}
+use Rattle.pq_gaps.specs.Gaps.{selected}
+use Rattle.pq_gaps.proofs.Selections.{selected_far}
 use Rattle.pq_loop.proofs.Picking.{selected_inside, ranks_at, jobs_live}
 use Rattle.pq_loop.proofs.segments.segments_of.Goals as goal
 use Rattle.pq_loop.proofs.segments.segments_of.Goals.{After-as_slice-4}

@@ -15,7 +15,7 @@ returns-clause-rewritten c wires is =
     let moved = rw c.replacement-replacement.ensures.replacement at c.copy_within.ensures.after in
     let read = rw c.pattern.ensures.pattern at c.read_wires-wires.ensures in
     let as_many : length places ≡ length row.pattern = places_long c.args.gates.now row.pattern wires places is.chosen in
-    let some : length places ≡ (length places - 1) + 1 = omega (arith, sound.shorter) in
+    let some : length places ≡ (length places - 1) + 1 = omega (arith, sound.shortens.shorter) in
     let last : get_or places (length places - 1) 0 + 1 ≡ last_place places + 1 = ap (λ n. n + 1) (sym (last_place_is places (length places - 1) some)) in
     let inside : get_or places (length places - 1) 0 < length c.args.gates.now = is.inside (length places - 1) 0 (omega arith) in
     rw c.replacement-replacement.ensures.replacement

@@ -1,6 +1,7 @@
 use Rattle.std.proofs.Common.{◌≡◌, ℕ, false, List, [], ◌∷◌, length, get_or, refl, sym, subst}
 use Rattle.pq_gate.specs.declared.gate.Gate.{Gate}
-use Rattle.pq_match.specs.Search.{HasNoFull, IsFirstFull, IsFirstAmong, IsOfRow}
+use Rattle.pq_match.specs.Found.{IsFoundAmong}
+use Rattle.pq_match.specs.Search.{HasNoFull, IsFirstFull, IsOfRow}
 use Rattle.pq_match.proofs.SearchNear.{none_near}
 use Rattle.pq_match.proofs.SearchRow.{none_of_row, first_of_row}
 use Rattle.pq_match.proofs.search.find_row.Goals as goal
@@ -21,7 +22,7 @@ returns-in_default-extend_at c =
 pub returns : goal.returns
 returns c =
     let found = c.in-Some-extend_at.ensures in
-    subst (λ (p : List Gate). IsFirstAmong (IsOfRow c.args.number c.args.start c.args.end) c.args.rules.now c.args.gates.now
+    subst (λ (p : List Gate). IsFoundAmong (IsOfRow c.args.number c.args.start c.args.end) c.args.rules.now c.args.gates.now
     (record { row = c.args.number; count = length p; places = c.in-Some-extend_at.places })) (sym c.pattern-pattern.ensures.pattern)
     (first_of_row c.args.rules.now c.args.gates.now c.args.number c.args.start c.args.end c.in-Some.row.now (sym c.in-Some.ensures.row) c.in-Some.ensures.sound
     (c.args.start ∷ 0 ∷ 0 ∷ 0 ∷ 0 ∷ 0 ∷ 0 ∷ 0 ∷ []) refl c.requires.end c.in-Some-extend_at.places (subst (λ (p : List Gate). IsFirstFull c.args.gates.now p c.args.end (c.args.start ∷ 0 ∷ 0 ∷ 0 ∷ 0 ∷ 0 ∷ 0 ∷ 0 ∷ []) 1 c.in-Some-extend_at.places) c.pattern-pattern.ensures.pattern found))

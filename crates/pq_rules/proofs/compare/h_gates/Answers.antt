@@ -5,8 +5,8 @@ use Rattle.pq_rules.proofs.compare.h_gates.Goals as goal
 
 pub loop-gate-preserved : goal.loop-gate-preserved
 loop-gate-preserved c = record {
-  is = ap (λ (n : ℕ). n + c.h_part-count.result) c.loop-gate.invariant.is ∙
-      ap (λ (n : ℕ). h_count (take c.loop-gate.gate-index c.args.gates.now) + n) c.h_part-count.ensures.is ∙
+  is = ap (λ (n : ℕ). n + c.roots-count.result) c.loop-gate.invariant.is ∙
+      ap (λ (n : ℕ). h_count (take c.loop-gate.gate-index c.args.gates.now) + n) c.roots-count.ensures.is ∙
       sym (h_count-more c.args.gates.now c.loop-gate.gate-index _ c.loop-gate-test.true);
   few = omega arith;
 }

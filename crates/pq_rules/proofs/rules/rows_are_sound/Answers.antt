@@ -1,4 +1,4 @@
-use Rattle.std.proofs.Common.{◌≡◌, List, All, subst, take_all}
+use Rattle.std.proofs.Common.{List, All, subst, take_all}
 use Rattle.std.proofs.lemmas.List.Elements.{All-more}
 use Rattle.pq_rules.specs.Row.{RowView, IsSound}
 use Rattle.pq_rules.proofs.rules.rows_are_sound.Goals as goal

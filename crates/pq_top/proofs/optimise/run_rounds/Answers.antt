@@ -2,7 +2,6 @@ use Rattle.std.proofs.Common.{◌∙◌}
 use Rattle.std.specs.Prelude.{IfOk}
 use Rattle.std.proofs.lemmas.Result.{IfOk-weaker}
 use Rattle.pq_rules.specs.Table.{builtin_rows}
-use Rattle.pq_top.specs.Outputs.{total_of}
 use Rattle.pq_top.proofs.Leading.{first_on_its_way, next_on_its_way, some_finger}
 use Rattle.pq_top.proofs.Optimising.{IsLeft, left_at_end}
 use Rattle.pq_top.proofs.optimise.run_rounds.Goals as goal
@@ -19,9 +18,9 @@ rounds-preserved c =
     next_on_its_way builtin_rows c.args.omega c.args.gates.now c.rounds.looping c.in_ok-next.next c.in_ok-next._step c.rounds.invariant
     (some_finger c.rounds.looping.state.fingers c.is_done.result c.rounds-test.true c.is_done.ensures.1) made.round made.settings made.rounds made.calls made.phase
 
-left : (c : goal.After-finish) → IfOk c.finish.result (λ finished. IsLeft c.args.omega c.args.gates.now (total_of finished))
+left : (c : goal.After-finish) → IfOk c.finish.result (λ finished. IsLeft c.args.omega c.args.gates.now finished)
 left c =
-    left_at_end c.finish.result c.in_ok-rules.rules c.args.omega c.args.gates.now c.rounds.looping c.requires.least c.in_ok-rules.ensures.rows
+    left_at_end c.finish.result c.in_ok-rules.rules c.args.omega c.args.gates.now c.rounds.looping c.requires.omega.least c.in_ok-rules.ensures.rows
     c.count-count.ensures.sound c.rounds.invariant (c.is_done.ensures.0 c.rounds-test.false) c.finish.ensures.gates c.finish.ensures.counts
 
 pub returns-clause-opt : goal.returns-clause-opt

@@ -1,7 +1,7 @@
 use Rattle.std.proofs.Common.{◌≡◌, ℕ, ◌*◌, ◌<◌, List, [], ◌∷◌, ◌++◌, sym, ap, ◌∙◌, arith}
 use Rattle.std.proofs.lemmas.List.FromFn.{map-range_with_len_more}
-use Rattle.pq_finger.specs.Gaps.{first_fingers}
-use Rattle.pq_finger.proofs.Multiples.{multiples_rise, first_is}
+use Rattle.pq_gaps.specs.Gaps.{first_fingers}
+use Rattle.pq_gaps.proofs.Multiples.{multiples_rise, first_is}
 use Rattle.pq_finger.proofs.fingers.Fingers.first.Goals as goal
 
 pub push_reserved-requires : goal.push_reserved-requires

@@ -2,9 +2,9 @@ use Rattle.std.proofs.Common.{ℕ, ◌-◌, List, ◌++◌, length, take, drop, 
 use Rattle.std.specs.List.{flat_map}
 use Rattle.std.proofs.lemmas.List.{take_rest}
 use Rattle.pq_finger.specs.declared.cut.Cut.{Cut}
-use Rattle.pq_finger.specs.Gaps.{ascending}
+use Rattle.pq_gaps.specs.Gaps.{ascending}
 use Rattle.pq_finger.specs.Settled.{settled, new_places}
-use Rattle.pq_finger.proofs.Putting.{increasing-ascending}
+use Rattle.pq_gaps.proofs.Putting.{increasing-ascending}
 use Rattle.pq_finger.proofs.Whole.{settled_whole, settled_rises}
 use Rattle.pq_finger.proofs.fingers.Fingers.settle.Goals as goal
 

@@ -1,9 +1,0 @@
-use Rattle.pq_loop.proofs.Covering.{state_after}
-use Rattle.pq_loop.proofs.OneOpt.{opt_some, opt_only}
-use Rattle.pq_loop.proofs.laws.opt_has_one_result.Goals as goal
-
-pub returns-clause-some : goal.returns-clause-some
-returns-clause-some c = opt_some state_after
-
-pub returns-clause-only : goal.returns-clause-only
-returns-clause-only c = opt_only

@@ -1,0 +1,9 @@
+pub mod Redexes
+pub mod OneRound
+pub mod Joining
+pub mod Keeping
+pub mod Falling
+pub mod Covering
+pub mod OneOpt
+pub mod Shortening
+pub mod Ending
