@@ -1,4 +1,4 @@
-use Rattle.std.proofs.Common.{◌≡◌, ℕ, zero, suc, ◌^◌, ◌<◌, ◌≤◌, Bool, true, false, ◌&&◌, ◌||◌, eqb, ltb, leb, not, ◌⊎◌, List, [], ◌∷◌, length, get_or, map, inl, inr, refl, ap, sym, subst, ◌∙◌, eq-eqb, arith}
+use Rattle.std.proofs.Common.{◌≡◌, ℕ, zero, suc, ◌^◌, ◌<◌, Bool, true, false, ◌&&◌, ◌||◌, eqb, ltb, leb, not, ◌⊎◌, List, [], ◌∷◌, length, get_or, map, inl, inr, refl, ap, sym, subst, ◌∙◌, eq-eqb, arith}
 use Rattle.std.specs.Prelude.{ℤ, pos, negsuc, All}
 use Rattle.std.proofs.lemmas.List.{length-map, get_or-map}
 use Rattle.std.proofs.lemmas.Bool.{ltb-true, leb-true, eqb-true}

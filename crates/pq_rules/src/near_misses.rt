@@ -63,7 +63,10 @@ fn differs(
     let (from, to) = pair;
     match check_row(raw) {
         Ok(_row) => panic!(rt; "{pattern} passes"),
-        Err(fault) => assert!(rt; fault == RowFault::Differs { from, to }, "{pattern}: {fault:?}"),
+        Err(fault) => assert!(rt;
+            fault == RowFault::Differs { from, to },
+            "{pattern}: {fault:?}"
+        ),
     }
     Ok(())
 }
