@@ -1,12 +1,10 @@
 -- Each kind of step on the table keeps the law, and tells what it is said to tell.
-use Rattle.std.proofs.Common.{◌≡◌, ◌≢◌, ℕ, zero, suc, ◌+◌, ◌-◌, ◌*◌, ◌/◌, ◌%◌, ◌^◌, ◌<◌, ◌≤◌, List, [], ◌∷◌, ◌++◌, length, set, get_or, refl, sym, ap, ◌∙◌, subst, arith}
+use Rattle.std.proofs.Common.{◌≡◌, ℕ, suc, ◌+◌, ◌-◌, ◌%◌, ◌^◌, ◌<◌, ◌≤◌, List, [], ◌∷◌, ◌++◌, length, set, get_or, refl, sym, subst, arith}
 use Rattle.std.specs.Prelude.{All, Contains}
 use Rattle.std.proofs.lemmas.List.{set-get_or}
 use Rattle.std.proofs.lemmas.Nat.{pow_pos}
 use Rattle.std.proofs.lemmas.List.Elements.{Contains-get_or}
-use mathlib.Core.Option.{some}
-use lib.ListN.{get_elem?}
-use Rattle.atomic_table.specs.Table.{State, Me, Act, keeps, Allows, Splits, Joins}
+use Rattle.atomic_table.specs.Table.{State, Me, keeps, Allows, Splits, Joins}
 use Rattle.atomic_table.proofs.Lists.{set_again}
 use Rattle.pq_board.specs.Ways.{way}
 use Rattle.pq_board.specs.Law.{IsPlan, Lawful, leaves, job, nodes_at, spent}
@@ -28,10 +26,10 @@ abbrev pub Keeps : Plan → State (Unit {0}) View → Type 0
 Keeps plan s = Lawful plan s.words s.views
 
 -- a table's law is that of the pass's plan
-own : (plan : Plan) (v : View) (words : List ℕ) (views : List View) → plan ≡ v.plan → Lawful plan words views → Lawful v.plan words views
+pub own : (plan : Plan) (v : View) (words : List ℕ) (views : List View) → plan ≡ v.plan → Lawful plan words views → Lawful v.plan words views
 own plan v words views same law = subst (λ (p : Plan). Lawful p words views) same law
 
-back : (plan : Plan) (v : View) (words : List ℕ) (views : List View) → plan ≡ v.plan → Lawful v.plan words views → Lawful plan words views
+pub back : (plan : Plan) (v : View) (words : List ℕ) (views : List View) → plan ≡ v.plan → Lawful v.plan words views → Lawful plan words views
 back plan v words views same law = subst (λ (p : Plan). Lawful p words views) (sym same) law
 
 pub claim_allowed : (plan : Plan) (slots id : ℕ) (me : Me (Unit {0}) View) → plan ≡ me.0.plan → 1 ≤ me.0.rights →

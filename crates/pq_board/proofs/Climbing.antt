@@ -1,8 +1,8 @@
 -- On the way from a leaf to the root, and words that are copied one after another.
-use Rattle.std.proofs.Common.{◌≡◌, ◌≢◌, ℕ, zero, suc, ◌+◌, ◌-◌, ◌*◌, ◌/◌, ◌%◌, ◌^◌, ◌<◌, ◌≤◌, ◌⊎◌, ⊎_elim, List, [], ◌∷◌, ◌++◌, map, length, set, get_or, refl, sym, ap, ◌∙◌, subst, arith, append_assoc, get_or-set_same, get_or-set_other}
-use Rattle.std.specs.Prelude.{All, Contains}
+use Rattle.std.proofs.Common.{◌≡◌, ℕ, zero, suc, ◌+◌, ◌-◌, ◌/◌, ◌%◌, ◌^◌, ◌<◌, ◌≤◌, ⊎_elim, List, [], ◌∷◌, ◌++◌, length, set, get_or, refl, sym, ap, ◌∙◌, subst, arith, append_assoc, get_or-set_same, get_or-set_other}
+use Rattle.std.specs.Prelude.{Contains}
 use Rattle.std.specs.List.{concat}
-use Rattle.std.proofs.lemmas.Bool.{cases_lt, cases_eq}
+use Rattle.std.proofs.lemmas.Bool.{cases_eq}
 use Rattle.std.proofs.lemmas.List.{append-nil, map-append}
 use Rattle.std.proofs.lemmas.List.Elements.{All-contains, Contains-append_left, Contains-append_right}
 use Rattle.atomic_table.specs.Table.{Me, Allows}
@@ -83,7 +83,7 @@ climb_allowed plan slots id me ticket place node old same low held early there f
     lower_allowed plan slots id me ticket place node (halves (node / 2) (node / 2)) is.plan_is low is.held is.early is.there is.next
 
 -- the lists joined hold what one of them holds
-contains_concat : (lists : List (List ℕ)) (k : ℕ) (x : ℕ) → k < length lists → Contains (get_or lists k []) x → Contains (concat lists) x
+pub contains_concat : (lists : List (List ℕ)) (k : ℕ) (x : ℕ) → k < length lists → Contains (get_or lists k []) x → Contains (concat lists) x
 contains_concat [] k x lt there = absurd (omega arith)
 contains_concat (list ∷ lists) zero x lt there = Contains-append_left list (concat lists) x there
 contains_concat (list ∷ lists) (suc k) x lt there = Contains-append_right list (concat lists) x (contains_concat lists k x (omega arith) there)

@@ -1,12 +1,15 @@
 -- What the one pass that is left knows once the board is closed.
-use Rattle.std.proofs.Common.{◌≡◌, ℕ, ◌+◌, ◌<◌, ◌≤◌, List, length, get_or, refl, sym, ap, ◌∙◌, subst, arith}
-use Rattle.atomic_table.specs.Table.{State, Final, Seen}
+use Rattle.std.proofs.Common.{◌≡◌, ℕ, ◌+◌, ◌≤◌, List, length, get_or, refl, sym, ◌∙◌, subst, arith}
+use Rattle.atomic_table.specs.Table.{Final, Seen}
 use Rattle.pq_board.specs.Sums.{weigh, below}
-use Rattle.pq_board.specs.Law.{Lawful, leaves, stake, lowerings_of}
-use Rattle.pq_board.specs.Steps.{AreWhole, AreFirst, lowered_places, places_under}
+use Rattle.pq_board.specs.Law.{Lawful, Stands, leaves, stake, lowerings_of}
+use Rattle.pq_board.specs.Ways.{live_leaves}
+use Rattle.pq_array.specs.Counts.{Counts}
+use Rattle.pq_board.specs.Steps.{AreWhole, AreFirst, lowered_places, places_under, without}
 use Rattle.pq_board.specs.declared.plan.Plan.{Plan}
 use Rattle.pq_board.specs.declared.plan.View.{View}
-use Rattle.pq_board.proofs.Keeping.{alone}
+use Rattle.pq_board.proofs.Keeping.{alone, stands}
+use Rattle.pq_board.proofs.Leaving.{closing_counts, lowered_once, lowered_live}
 use Rattle.pq_board.proofs.Allowed.{Keeps}
 use Rattle.pq_board.proofs.Whole.{are_first, how_many, lowerings_whole}
 
@@ -15,25 +18,33 @@ pub record Closes (plan : Plan) (v : View) (words : List ℕ) : Type 0 where
   pub drawn : get_or words 0 0 ≡ length v.tickets
   pub first : AreFirst v.tickets
   pub counts : (node : ℕ) → 1 ≤ node → get_or words node 0 + places_under plan node (lowered_places v.lowered) ≡ get_or plan.words.items node 0
+  pub tree : Counts words (without (lowered_places v.lowered) (live_leaves plan.words.items))
 
 closes_at : (plan : Plan) (words : List ℕ) (views : List View) (id : ℕ) (v : View) → Lawful plan words views → lib.ListN.get_elem? views id ≡ mathlib.Core.Option.some v →
-    stake plan v ≡ plan.passes → AreWhole (leaves plan) v.lowered → Closes plan v words
-closes_at plan words views id v law at whole ways =
+    v.plan ≡ plan → stake plan v ≡ plan.passes → AreWhole (leaves plan) v.lowered → Closes plan v words
+closes_at plan words views id v law at same whole ways =
     let are : (h : ℕ → ℕ) → weigh h v.tickets ≡ below h (get_or words 0 0) = (λ h. sym (alone plan words views id v law at whole (λ u. weigh h u.tickets) refl) ∙ law.tickets h) in
+    let counts : (node : ℕ) → 1 ≤ node → get_or words node 0 + places_under plan node (lowered_places v.lowered) ≡ get_or plan.words.items node 0 =
+    (λ node low. counted_at node low) in
+    let s : Stands plan v = stands plan words views id v law at same in
     record {
       drawn = how_many v.tickets (get_or words 0 0) are;
       first = are_first v.tickets (get_or words 0 0) are;
-      counts = λ node low.
-          omega (
-            arith,
-            law.counts node low,
-            alone plan words views id v law at whole (λ u. lowerings_of node u.lowered) refl,
-            lowerings_whole plan node v.lowered ways,
-          );
+      counts = counts;
+      tree = closing_counts plan words (lowered_places v.lowered) law.opened law.size (lowered_once plan v s) (lowered_live plan v law.opened s) counts;
     }
+  where
+    counted_at : (node : ℕ) → 1 ≤ node → get_or words node 0 + places_under plan node (lowered_places v.lowered) ≡ get_or plan.words.items node 0
+    counted_at node low =
+        omega (
+          arith,
+          law.counts node low,
+          alone plan words views id v law at whole (λ u. lowerings_of node u.lowered) refl,
+          lowerings_whole plan node v.lowered ways,
+        )
 
-pub closes : (plan key : Plan) (id : ℕ) (v : View) (words : List ℕ) (slots : List (Unit {0})) → key ≡ plan → stake plan v ≡ plan.passes → AreWhole (leaves plan) v.lowered →
+pub closes : (plan key : Plan) (id : ℕ) (v : View) (words : List ℕ) (slots : List (Unit {0})) → key ≡ plan → v.plan ≡ plan → stake plan v ≡ plan.passes → AreWhole (leaves plan) v.lowered →
     Final (Seen (Keeps key) id v) words slots → Closes plan v words
-closes plan key id v words slots same whole ways final =
+closes plan key id v words slots same its whole ways final =
     let law : Lawful plan final.0.words final.0.views = subst (λ (p : Plan). Lawful p final.0.words final.0.views) same final.1.0 in
-    subst (λ (w : List ℕ). Closes plan v w) final.2 (closes_at plan final.0.words final.0.views id v law final.1.1 whole ways)
+    subst (λ (w : List ℕ). Closes plan v w) final.2 (closes_at plan final.0.words final.0.views id v law final.1.1 its whole ways)

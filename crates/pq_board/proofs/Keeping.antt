@@ -1,5 +1,5 @@
 -- What the law tells a pass, and that each kind of step keeps it.
-use Rattle.std.proofs.Common.{◌≡◌, ◌≢◌, ℕ, zero, suc, ◌+◌, ◌-◌, ◌*◌, ◌/◌, ◌^◌, ◌<◌, ◌≤◌, ◌⊎◌, inl, inr, ⊎_elim, Bool, true, false, cond, eqb, ltb, List, [], ◌∷◌, ◌++◌, map, length, set, get_or, refl, sym, ap, ◌∙◌, subst, arith, length-set, get_or-set_same, get_or-set_other, append_assoc}
+use Rattle.std.proofs.Common.{◌≡◌, ◌≢◌, ℕ, zero, suc, ◌+◌, ◌-◌, ◌<◌, ◌≤◌, ◌⊎◌, inl, inr, ⊎_elim, Bool, true, false, cond, eqb, ltb, List, [], ◌∷◌, ◌++◌, map, length, set, get_or, refl, sym, ap, ◌∙◌, subst, arith, length-set, get_or-set_same, get_or-set_other, append_assoc}
 use Rattle.std.specs.Prelude.{All, Contains}
 use Rattle.std.specs.List.{concat, filter}
 use Rattle.std.proofs.lemmas.Bool.{cases_lt, cases_eq}
@@ -8,16 +8,15 @@ use Rattle.std.proofs.lemmas.List.{append-nil, get_or_past, map-append}
 use Rattle.std.proofs.lemmas.List.Elements.{All-nil, All-append, All-push, All-head, All-tail, All-weaker, Contains-append_left, Contains-append_right, filter-append}
 use mathlib.Core.Option.{some, some-injective, some-ne-none}
 use lib.ListN.{get_elem?}
-use Rattle.atomic_table.proofs.Lists.{at_set, at_snoc, set_again, set_else}
+use Rattle.atomic_table.proofs.Lists.{at_set, at_snoc, set_else}
 use Rattle.pq_board.specs.Sums.{weigh, times, below, one_if_same}
-use Rattle.pq_board.specs.Ways.{halves, way, live_leaves}
+use Rattle.pq_board.specs.Ways.{way}
 use Rattle.pq_board.specs.Law.{IsPlan, Lawful, Stands, IsLowering, BeginsWith, leaves, job, late, one_if_late, stake, nodes_at, lowerings_of, spent}
 use Rattle.pq_board.specs.Steps.{unused, without_rights, with_ticket, with_lowered, with_both, at_nodes, Looked, AreOnce}
 use Rattle.pq_board.specs.declared.plan.Plan.{Plan}
 use Rattle.pq_board.specs.declared.plan.Lowering.{Lowering}
 use Rattle.pq_board.specs.declared.plan.View.{View}
-use Rattle.pq_board.proofs.Sums.{one_same, one_other, times_contains, weigh_append, weigh_push, weigh_set, weigh_part, weigh_two, weigh_contains, weigh_none, weigh_only, weigh_le, weigh_lt, below_past, below_at_most, below_late, below_joined}
-use Rattle.pq_board.proofs.Ways.{times_halves, times_next}
+use Rattle.pq_board.proofs.Sums.{one_same, one_other, times_contains, weigh_append, weigh_push, weigh_set, weigh_part, weigh_two, weigh_contains, weigh_only, weigh_le, weigh_lt, below_past, below_at_most, below_late, below_joined}
 use Rattle.pq_board.proofs.Bounds.{places_below, lowered_le, lowered_lt, opening_counts, times_rising}
 
 -- no pass that belongs to a board is spent
@@ -103,9 +102,19 @@ stake_claim : (b : Bool) (rights before : ℕ) → 1 ≤ rights → cond b right
 stake_claim true rights before right = omega arith
 stake_claim false rights before right = omega arith
 
-claim_stake : (v : View) (n : ℕ) → 1 ≤ v.rights → stake v.plan (with_ticket n v) ≡ stake v.plan v
+pub claim_stake : (v : View) (n : ℕ) → 1 ≤ v.rights → stake v.plan (with_ticket n v) ≡ stake v.plan v
 claim_stake v n right =
     omega (arith, weigh_push (one_if_late v.plan) v.tickets n, stake_claim (ltb n (length v.plan.jobs)) v.rights (late v.plan v.tickets) right)
+
+-- the same where the plan is another name for the view's
+pub claimed_stake : (plan : Plan) (old new : View) (n : ℕ) → old.plan ≡ plan → 1 ≤ old.rights → new ≡ with_ticket n old → stake plan new ≡ stake plan old
+claimed_stake plan old new n same right is =
+    let its : stake old.plan new ≡ stake old.plan old = ap (λ (u : View). stake old.plan u) is ∙ claim_stake old n right in
+    subst (λ (p : Plan). stake p new ≡ stake p old) same its
+
+-- of two passes together
+pub joined_stake : (plan : Plan) (v w : View) → stake plan (with_both v w) ≡ stake plan v + stake plan w
+joined_stake plan v w = omega (arith, weigh_append (one_if_late plan) v.tickets w.tickets)
 
 claim_stands : (v : View) (n : ℕ) → 1 ≤ v.rights → Stands v.plan v → Stands v.plan (with_ticket n v)
 claim_stands v n right s = record {

@@ -6,5 +6,9 @@ pub mod Keeping
 pub mod Allowed
 pub mod Whole
 pub mod Climbing
+pub mod Leaving
 pub mod Closing
 pub mod Opening
+pub mod StepLaws
+pub mod Claiming
+pub mod Trials

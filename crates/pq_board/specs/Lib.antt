@@ -6,3 +6,4 @@ pub mod Sums
 pub mod Ways
 pub mod Law
 pub mod Steps
+pub mod Kinds

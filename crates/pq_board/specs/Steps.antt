@@ -4,7 +4,7 @@ use Rattle.std.specs.List.{filter}
 use Rattle.atomic_table.specs.Seated.{TableId}
 use Rattle.pq_board.specs.Sums.{weigh, times, below}
 use Rattle.pq_board.specs.Ways.{way}
-use Rattle.pq_board.specs.Law.{leaves, stake, late}
+use Rattle.pq_board.specs.Law.{leaves, stake}
 use Rattle.pq_board.specs.declared.plan.Plan.{Plan}
 use Rattle.pq_board.specs.declared.plan.Lowering.{Lowering}
 use Rattle.pq_board.specs.declared.plan.View.{View}
@@ -114,6 +114,10 @@ early plan tickets = weigh (λ ticket. cond (nat_lt ticket (length plan.jobs)) 1
 -- how many of these places stand below a node
 abbrev pub places_under : Plan → ℕ → List ℕ → ℕ
 places_under plan node places = weigh (λ place. times node (way (leaves plan) place)) places
+
+-- the numbers of a list that don't stand among others
+abbrev pub without : List ℕ → List ℕ → List ℕ
+without others xs = filter (λ x. nat_eq (times x others) 0) xs
 
 -- What a look at word 0 tells a pass: its rights are no more than there are passes, none of its tickets stands twice; and where it is
 -- the one pass that is left, its tickets are the numbers below word 0, each once.

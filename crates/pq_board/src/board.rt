@@ -6,7 +6,7 @@ ghost use Rattle.pq_board.specs.Sums.{weigh, times};
 ghost use Rattle.pq_board.specs.Ways.{way, live_leaves};
 ghost use Rattle.pq_board.specs.Law.{IsPlan, leaves, job, nodes_at, stake, late};
 ghost use Rattle.std.specs.Mem.Slots.{slots_items, slots_len, IsFull};
-ghost use Rattle.pq_board.specs.Steps.{BelongsTo, unused, without_rights, with_lowered, with_both, whole_way, lowered_places, Claimed, HoldAll, AreOnce, AreFirst, early, places_under};
+ghost use Rattle.pq_board.specs.Steps.{BelongsTo, unused, without_rights, with_lowered, with_both, whole_way, lowered_places, Claimed, HoldAll, AreOnce, AreFirst, early, places_under, without};
 
 use crate::jobs::Jobs;
 use crate::pass::Pass;
@@ -15,6 +15,7 @@ use crate::receipt::Receipt;
 use crate::rule::{Aim, Claims, Gives, Law, Looks, Lowers, Part, Takes};
 use atomic_table::{Seat, Table};
 use pq_array::WordList;
+use pq_list::crosses_threads;
 use std::alloc::Global;
 use std::marker::{Brand, Model};
 
@@ -114,6 +115,7 @@ impl Board {
         requires right { 1 ≤ pass.old.view.rights }
         ensures board { pass.new.board ≡ pass.old.board }
         ensures claimed { Claimed pass.old.view result pass.new.view }
+        ensures staked { stake self.now.plan pass.new.view ≡ stake self.now.plan pass.old.view }
     {
         let ticket = self.table.shared.fetch_add::<Claims>(&mut pass.seat, 0, 1);
         if ticket < self.job_count() {
@@ -147,6 +149,7 @@ impl Board {
         ensures board { into.new.board ≡ into.old.board }
         ensures both { into.new.view ≡ with_both into.old.view from.view }
         ensures once { AreOnce into.new.view.tickets }
+        ensures staked { stake self.now.plan into.new.view ≡ stake self.now.plan into.old.view + stake self.now.plan from.view }
     {
         let Pass { seat, rights } = from;
         self.table.shared.join_seat::<Takes>(&mut into.seat, seat);
@@ -194,6 +197,7 @@ impl Board {
         ensures drawn { slice_index result.words.items 0 ≡ length pass.view.tickets }
         ensures counts { (node : ℕ) → 1 ≤ node →
             slice_index result.words.items node + places_under self.plan node (lowered_places pass.view.lowered) ≡ slice_index self.plan.words.items node }
+        ensures tree { Counts result.words.items (without (lowered_places pass.view.lowered) (live_leaves self.plan.words.items)) }
         ensures first { AreFirst pass.view.tickets }
         ensures all { 1 ≤ late self.plan pass.view.tickets → HoldAll self.plan pass.view.tickets }
         ensures receipt { result.receipt ≡ record {
@@ -292,4 +296,9 @@ fn cut<P: Part>(table: &Words, seat: &mut Seat<(), View>, rights: u32) -> Seat<(
     ensures right { result.me ≡ (unused seat.old.me.0.plan rights, []) }
 {
     table.shared.split_seat::<Gives<P>>(seat)
+}
+
+/// A board crosses threads.
+fn board_crosses_threads() {
+    crosses_threads::<Board>();
 }

@@ -3,6 +3,7 @@
 
 mod board;
 mod jobs;
+mod laws;
 mod pass;
 mod plan;
 mod receipt;
@@ -12,6 +13,7 @@ mod tests;
 
 pub use board::{Board, Closed, Unopened};
 pub use jobs::Jobs;
+pub use laws::{board_law, leaves_law};
 pub use pass::Pass;
 pub use plan::{Lowering, Plan, View};
 pub use pq_limits::MAX_JOBS;

@@ -31,3 +31,11 @@ impl Pass {
         self.rights
     }
 }
+
+/// What may be handed to another thread.
+fn may_be_sent<T: Send>() {}
+
+/// A pass may be handed to another thread.
+fn pass_may_be_sent() {
+    may_be_sent::<Pass>();
+}

@@ -1,13 +1,14 @@
 ghost use Rattle.std.specs.Prelude.{◌≡◌, ◌<◌, ◌≤◌, All, IfOk, map, length, slice_index};
 ghost use Rattle.std.specs.List.Sorted.{IsNonDecreasing, IsStrictlyIncreasing};
 ghost use Rattle.pq_gaps.specs.Gaps.{first_fingers, selected, ascending};
+ghost use Rattle.pq_limits.specs.Limits.{IsOmega};
 ghost use Rattle.pq_finger.specs.Settled.{settled, AreInOrder};
 
 use crate::cut::Cut;
 use crate::selecting::stands_apart;
 use crate::settling::{settle_boundaries, settle_fingers};
-use pq_io::PlaceList;
-use std::alloc::{AllocError, Global};
+use pq_list::{OutOfMemory, PlaceList};
+use std::alloc::Global;
 use std::marker::Model;
 
 /// The fingers: a strictly increasing list of places where a circuit is still to be looked at.
@@ -31,9 +32,8 @@ impl Model for Fingers {
 impl Fingers {
     /// The first fingers of an array of live cells alone: a finger at each multiple of Omega that is
     /// less than the number of live cells. Omega is 2 to 1,024.
-    pub fn first(alloc: Global, live: u64, omega: u32) -> Result<Fingers, AllocError>
-        requires least { 2 ≤ omega }
-        requires most { omega ≤ 1024 }
+    pub fn first(alloc: Global, live: u64, omega: u32) -> Result<Fingers, OutOfMemory>
+        requires { IsOmega omega }
         ensures { IfOk result (λ fingers. fingers ≡ first_fingers live omega) }
     {
         let omega = u64::from(omega);
@@ -55,7 +55,7 @@ impl Fingers {
 
     /// The indexes of the fingers that a round selects, where `ranks` are the gaps of the fingers: the
     /// first, and then each next one that stands at least 2 * Omega after the last selected one.
-    pub fn select(&self, alloc: Global, ranks: &[u64], omega: u32) -> Result<PlaceList, AllocError>
+    pub fn select(&self, alloc: Global, ranks: &[u64], omega: u32) -> Result<PlaceList, OutOfMemory>
         requires count { length ranks.now ≡ length self.now }
         requires rising { IsStrictlyIncreasing ranks.now }
         ensures in_range { IfOk result (λ list. All (λ index. index < length self.now) list.items) }
@@ -79,7 +79,7 @@ impl Fingers {
     /// The fingers after a round that made these cuts, one for each selected finger, in order. The
     /// selected fingers are dropped, and those strictly inside an improved segment. The boundaries of
     /// an improved segment become fingers, but for the start and the end. All are at old places.
-    pub fn settle(&self, alloc: Global, cuts: &[Cut]) -> Result<Fingers, AllocError>
+    pub fn settle(&self, alloc: Global, cuts: &[Cut]) -> Result<Fingers, OutOfMemory>
         requires { AreInOrder self.now cuts.now }
         ensures { IfOk result (λ fingers. fingers ≡ settled self.now cuts.now) }
     {

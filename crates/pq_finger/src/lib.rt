@@ -14,7 +14,7 @@ pub use laws::{
     cuts_of_a_round_are_in_order, moved_places_have_the_new_gaps, settled_places_are_kept,
     settled_places_have_the_kept_gaps,
 };
-pub use pq_io::PlaceList;
+pub use pq_list::PlaceList;
 
 #[cfg(test)]
 mod tests;

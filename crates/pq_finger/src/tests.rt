@@ -1,8 +1,9 @@
-ghost use Rattle.std.specs.Prelude.{◌≡◌, ◌≤◌, length};
+ghost use Rattle.std.specs.Prelude.{◌≡◌, length};
 ghost use Rattle.std.specs.List.Sorted.{IsStrictlyIncreasing};
+ghost use Rattle.pq_limits.specs.Limits.{IsOmega};
 
 use crate::{Cut, Fingers, PlaceList};
-use std::alloc::AllocError;
+use pq_list::OutOfMemory;
 use std::process::Abort;
 use std::test::Fail;
 
@@ -11,9 +12,8 @@ fn first_are(
     live: u64,
     omega: u32,
     want: &[u64],
-) -> Result<(), AllocError>
-    requires least { 2 ≤ omega }
-    requires most { omega ≤ 1024 }
+) -> Result<(), OutOfMemory>
+    requires { IsOmega omega }
 {
     let fingers = Fingers::first(rt.alloc(), live, omega)?;
     assert!(rt; fingers.places() == want, "of {live} and {omega}");

@@ -6,6 +6,7 @@ use Rattle.std.specs.List.Sorted.{IsStrictlyIncreasing}
 use Rattle.std.proofs.lemmas.Bool.{cases_lt}
 use Rattle.std.proofs.lemmas.List.Elements.{All-nil, All-cons, All-map, All-contains}
 use Rattle.pq_gate.specs.declared.gate.Gate.{Gate}
+use Rattle.pq_limits.specs.declared.TheConstants.{MAX_GATES}
 use Rattle.pq_rules.specs.Row.{RowView}
 use Rattle.pq_array.specs.Cells.{live, rank}
 use Rattle.pq_array.proofs.Ranks.{rank-le-live, length-live-le}
@@ -185,13 +186,13 @@ apart_few w n least (gap ∷ next ∷ gaps) some apart low high has =
 
 -- so there are no more results than cells may be
 pub results_few : {old : List (Option Gate)} {segments : Segments} {rules : List RowView} {results list : List WorkedView} {w : ℕ} →
-    segments.omega ≡ w → 0 < w → length old ≤ 1048576 → AreSegments old segments → results ≡ list → AreResults old segments.jobs rules list → length results ≤ 1048576
+    segments.omega ≡ w → 0 < w → length old ≤ MAX_GATES → AreSegments old segments → results ≡ list → AreResults old segments.jobs rules list → length results ≤ MAX_GATES
 results_few {old} {segments} {rules} {results} {list} window some few are same got =
     let count : length segments.gaps.items ≡ length list = results_count old segments rules list are got in
     let long : length results ≡ length list = ap (λ (l : List WorkedView). length l) same in
     by (cases_lt 0 (length segments.gaps.items)) count long
   where
-    by : (0 < length segments.gaps.items) ⊎ (length segments.gaps.items ≤ 0) → length segments.gaps.items ≡ length list → length results ≡ length list → length results ≤ 1048576
+    by : (0 < length segments.gaps.items) ⊎ (length segments.gaps.items ≤ 0) → length segments.gaps.items ≡ length list → length results ≡ length list → length results ≤ MAX_GATES
     by (inl has) count long =
         let most : 0 + 2 * length segments.gaps.items ≤ length (live old) + 2 =
         apart_few segments.omega (length (live old)) 0 segments.gaps.items (omega (arith, window)) are.apart (λ k d lt. omega arith) are.inside has in

@@ -11,6 +11,8 @@ use Rattle.std.specs.Int.{div_ceil}
 use Rattle.pq_gate.specs.declared.gate.Gate.{Gate}
 use Rattle.pq_gate.specs.Circuit.{IsCircuit}
 use Rattle.pq_gate.specs.Matrix.{Same}
+use Rattle.pq_limits.specs.Limits.{IsOmega}
+use Rattle.pq_limits.specs.declared.TheConstants.{MAX_GATES}
 use Rattle.pq_rules.specs.Row.{RowView, IsSound}
 use Rattle.pq_array.specs.Cells.{live, rank, IsLive}
 use Rattle.pq_array.proofs.Ranks.{live-map_some}
@@ -36,13 +38,12 @@ pub kept_after : {old new : List (Option Gate)} {fingers moved : List ℕ} {rule
 kept_after {old} {new} {fingers} {moved} {rules} {w} {rounds} {calls} {phase} {step} kept some is stand size =
     let before : State = state_of old fingers in
     let after : State = state_of new moved in
-    let least : 0 < w = omega (arith, kept.least) in
+    let least : 0 < w = omega (arith, kept.omega_is.least) in
     let falls : length (map (rank new) moved) + 2 * length (live new) + step.selected ≤ length (map (rank old) fingers) + 2 * length (live old) =
     round_falls rules w before after step least kept.sound kept.is_state is in
     let selects : 0 < step.selected = round_selects rules w before after step is some in
     record {
-      least = kept.least;
-      most = kept.most;
+      omega_is = kept.omega_is;
       sound = kept.sound;
       few = omega (arith, kept.few, size);
       stand = stand;
@@ -103,16 +104,15 @@ opened_state {cells} {fingers} gates w some cells_are fingers_are =
 
 -- the opened loop keeps it
 pub kept_first : {cells : List (Option Gate)} {fingers : List ℕ} {rules : List RowView} {w : ℕ} (gates : List Gate) → cells ≡ map (λ gate. Some gate) gates →
-    fingers ≡ first_fingers (length gates) w → All IsSound rules → length gates ≤ 1048576 → 2 ≤ w → w ≤ 1024 → IsKept cells fingers rules w 0 0 0
-kept_first {cells} {fingers} {rules} {w} gates cells_are fingers_are sound few least most =
-    let some : 0 < w = omega arith in
+    fingers ≡ first_fingers (length gates) w → All IsSound rules → length gates ≤ MAX_GATES → IsOmega w → IsKept cells fingers rules w 0 0 0
+kept_first {cells} {fingers} {rules} {w} gates cells_are fingers_are sound few is =
+    let some : 0 < w = omega (arith, is.least) in
     let state : state_of cells fingers ≡ first_state w gates = opened_state gates w some cells_are fingers_are in
     let long : length cells ≡ length gates = ap (λ (c : List (Option Gate)). length c) cells_are ∙ length-map gates (λ gate. Some gate) in
     let stand : All (λ place. IsTrue (stands (map (λ gate. Some gate) gates) place)) (first_fingers (length gates) w) =
     λ k d lt. number_stands gates _ ((first_is_state w gates some).inside k d lt) in
     record {
-      least = least;
-      most = most;
+      omega_is = is;
       sound = sound;
       few = omega (arith, long, few);
       stand = subst (λ (c : List (Option Gate)). All (λ place. IsTrue (stands c place)) fingers) (sym cells_are)
@@ -172,7 +172,7 @@ pub after_of_view : {old : List (Option Gate)} {fingers : List ℕ} {rules : Lis
     Round rules w (state_of old fingers) after step → IsAfter rules w loop after step
 after_of_view {old} {fingers} {rules} {w} {rounds} {calls} {phase} {first} {loop} {after} {step} kept seen some is =
     let before : State = state_of old fingers in
-    let least : 0 < w = omega (arith, kept.least) in
+    let least : 0 < w = omega (arith, kept.omega_is.least) in
     let P : LoopView → Type 0 = λ v. 0 < length v.state.fingers → IsAfter rules w v after step in
     subst P seen
     (λ has. record {

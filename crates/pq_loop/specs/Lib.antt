@@ -1,3 +1,4 @@
+pub use Rattle.pq_limits.specs.Limits
 pub use Rattle.pq_gate.specs.Circuit
 pub use Rattle.pq_gate.specs.Matrix
 pub use Rattle.pq_gaps.specs.Gaps

@@ -1,6 +1,8 @@
 -- What contracts see of a loop.
 use Rattle.std.specs.Prelude.{ℕ, ◌+◌, ◌*◌, ◌<◌, ◌≤◌, Option, List, length, All, IsTrue}
 use Rattle.pq_gate.specs.declared.gate.Gate.{Gate}
+use Rattle.pq_limits.specs.Limits.{IsOmega}
+use Rattle.pq_limits.specs.declared.TheConstants.{MAX_GATES}
 use Rattle.pq_rules.specs.Row.{RowView, IsSound}
 use Rattle.pq_array.specs.Cells.{live}
 use Rattle.pq_method.specs.Round.{State, IsState}
@@ -25,13 +27,12 @@ IsCovered loop = ∥ Cover loop.rules loop.omega loop.state ∥₁
 -- What a loop keeps. The fingers are at places of live gates, or at the end; nothing is overlooked; and the calls
 -- so far, with the fingers and twice the gates that are left, are few.
 pub record IsKept (cells : List (Option Gate)) (fingers : List ℕ) (rules : List RowView) (omega rounds calls phase : ℕ) : Type 0 where
-  pub least : 2 ≤ omega
-  pub most : omega ≤ 1024
+  pub omega_is : IsOmega omega
   pub sound : All IsSound rules
-  pub few : length cells ≤ 1048576
+  pub few : length cells ≤ MAX_GATES
   pub stand : All (λ place. IsTrue (stands cells place)) fingers
   pub is_state : IsState (state_of cells fingers)
   pub cover : ∥ Cover rules omega (state_of cells fingers) ∥₁
-  pub bound : calls + (length fingers + 2 * length (live cells)) ≤ 3145728
+  pub bound : calls + (length fingers + 2 * length (live cells)) ≤ 3 * MAX_GATES
   pub rounds_few : rounds ≤ calls
   pub turn : phase < 8

@@ -3,6 +3,7 @@ ghost use Rattle.pq_array.specs.Cells.{live};
 ghost use Rattle.pq_gate.specs.Circuit.{IsCircuit};
 ghost use Rattle.pq_gate.specs.Matrix.{Same};
 ghost use Rattle.pq_gaps.specs.Gaps.{first_fingers};
+ghost use Rattle.pq_limits.specs.Limits.{AreWorkers, IsOmega};
 ghost use Rattle.pq_method.specs.Round.{Round};
 ghost use Rattle.pq_method.specs.Opt.{first_state, Local};
 ghost use Rattle.pq_loop.specs.Loops.{IsCovered};
@@ -13,10 +14,14 @@ use crate::segments::gaps_of;
 use pq_array::GateArray;
 use pq_finger::Fingers;
 use pq_gate::{Gate, GateList};
+use pq_limits::MAX_GATES;
+use pq_list::OutOfMemory;
 use pq_method::Step;
+use pq_round::WorkGate;
 use pq_rules::Rules;
-use std::alloc::{AllocError, Global};
+use std::alloc::Global;
 use std::marker::Model;
+use std::thread::Threads;
 
 /// Rounds over the gates of a circuit. Contracts see the state, which is the gates that are left and the
 /// fingers as gaps; the window length Omega and the rules; and the rounds, the oracle's calls and the phase
@@ -72,10 +77,14 @@ impl Loop {
     /// The loop before its first round: the first fingers stand at each multiple of Omega that is less than
     /// the number of gates, and overlook nothing. Omega is 2 to 1,024, and there are at most 1,048,576 gates.
     #[tactic(auto, using(crate::proofs::Kept::opened_state))]
-    pub fn open(alloc: Global, gates: &[Gate], omega: u32, rules: Rules) -> Result<Loop, AllocError>
-        requires least { 2 ≤ omega }
-        requires most { omega ≤ 1024 }
-        requires few { length gates.now ≤ 1048576 }
+    pub fn open(
+        alloc: Global,
+        gates: &[Gate],
+        omega: u32,
+        rules: Rules,
+    ) -> Result<Loop, OutOfMemory>
+        requires omega { IsOmega omega }
+        requires few { length gates.now ≤ MAX_GATES }
         ensures state { IfOk result (λ made. made.state ≡ first_state omega gates.now) }
         ensures omega { IfOk result (λ made. made.omega ≡ omega) }
         ensures rules { IfOk result (λ made. made.rules ≡ rules) }
@@ -115,9 +124,18 @@ impl Loop {
     }
 
     /// One round, while there is a finger: the segments of the selected fingers are given to the oracle, its answers
-    /// are put in their places, and the fingers are settled and moved. Where memory is refused, the loop is spent.
-    pub fn round(self, alloc: Global) -> Result<(Loop, Step), AllocError>
-        requires { 0 < length self.state.fingers }
+    /// are put in their places, and the fingers are settled and moved. So many workers, 1 to 64, give them to the oracle,
+    /// as `run_round` of `pq_round` says; the gate is called before and after each. Where memory is refused, the loop is
+    /// spent.
+    pub fn round<R: Threads + Sync, G: WorkGate>(
+        self,
+        rt: &R,
+        alloc: Global,
+        workers: u32,
+        gate: &G,
+    ) -> Result<(Loop, Step), OutOfMemory>
+        requires going { 0 < length self.state.fingers }
+        requires workers { AreWorkers workers }
         ensures round { IfOk result (λ made. Round self.rules self.omega self.state made.0.state made.1) }
         ensures settings { IfOk result (λ made. (made.0.omega ≡ self.omega) × (made.0.rules ≡ self.rules) × (made.0.first_fingers ≡ self.first_fingers)) }
         ensures rounds { IfOk result (λ made. made.0.rounds ≡ self.rounds + 1) }
@@ -139,7 +157,9 @@ impl Loop {
             phase,
             first_fingers,
         } = self;
-        let (fingers, step) = work_round(alloc, &mut array, &fingers, &rules, omega)?;
+        let (fingers, step) = work_round(
+            rt, alloc, &mut array, &fingers, &rules, omega, workers, gate,
+        )?;
         let after = Loop {
             array,
             fingers,
@@ -155,7 +175,7 @@ impl Loop {
 
     /// What is left, where there is no finger any more: no run of at most Omega gates has a redex. There were at most
     /// as many rounds as calls. Where memory is refused, the loop is spent.
-    pub fn finish(self, alloc: Global) -> Result<Finished, AllocError>
+    pub fn finish(self, alloc: Global) -> Result<Finished, OutOfMemory>
         requires { self.state.fingers ≡ [] }
         ensures gates { IfOk result (λ made. made.gates.items ≡ self.state.gates) }
         ensures counts { IfOk result (λ made. (made.rounds ≡ self.rounds) × (made.calls ≡ self.calls) × (made.phase ≡ self.phase) × (made.first_fingers ≡ self.first_fingers)) }
@@ -174,7 +194,7 @@ impl Loop {
 
     /// The gaps of the fingers.
     #[cfg(test)]
-    pub(crate) fn gaps(&self, alloc: Global) -> Result<Vec<u64>, AllocError>
+    pub(crate) fn gaps(&self, alloc: Global) -> Result<Vec<u64>, OutOfMemory>
         ensures { IfOk result (λ gaps. gaps.items ≡ self.now.state.fingers) }
     {
         gaps_of(alloc, &self.array, &self.fingers)
@@ -182,8 +202,8 @@ impl Loop {
 }
 
 /// The gates that are left, in order of place.
-fn live_gates(alloc: Global, array: &GateArray) -> Result<GateList, AllocError>
-    requires { length array.now ≤ 1048576 }
+fn live_gates(alloc: Global, array: &GateArray) -> Result<GateList, OutOfMemory>
+    requires { length array.now ≤ MAX_GATES }
     ensures gates { IfOk result (λ list. list.items ≡ live array.now) }
 
     // The list has no room for more.

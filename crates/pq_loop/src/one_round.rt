@@ -1,6 +1,7 @@
 ghost use Rattle.std.specs.Prelude.{◌≡◌, ◌≤◌, ℕ, List, All, IfOk, IsTrue, length, map};
 ghost use Rattle.pq_array.specs.Cells.{live, rank};
 ghost use Rattle.pq_gaps.specs.Gaps.{ascending};
+ghost use Rattle.pq_limits.specs.Limits.{AreWorkers, IsOmega};
 ghost use Rattle.pq_match.specs.Row.{IsSound};
 ghost use Rattle.pq_method.specs.Round.{Round};
 ghost use Rattle.pq_loop.specs.Segments.{stands, state_of, works_of, AreNumbersOf, AreMoved};
@@ -8,24 +9,31 @@ ghost use Rattle.pq_loop.specs.Segments.{stands, state_of, works_of, AreNumbersO
 use crate::segments::segments_of;
 use pq_array::GateArray;
 use pq_finger::Fingers;
+use pq_limits::MAX_GATES;
+use pq_list::OutOfMemory;
 use pq_method::Step;
 use pq_oracle::Worked;
-use pq_round::run_round;
+use pq_round::{WorkGate, run_round};
 use pq_rules::Rules;
-use std::alloc::{AllocError, Global};
+use std::alloc::Global;
+use std::thread::Threads;
 
-/// One round: the gates of the array become those after the round. Answers the fingers after it, and its
-/// numbers. Each finger is at the place of a live gate, or at the end.
-pub fn work_round(
+/// One round by so many workers, with the gate before and after each ticket: the gates of the array become those
+/// after the round. Answers the fingers after it, and its numbers. Each finger is at the place of a live gate, or at
+/// the end.
+pub fn work_round<R: Threads + Sync, G: WorkGate>(
+    rt: &R,
     alloc: Global,
     array: &mut GateArray,
     fingers: &Fingers,
     rules: &Rules,
     omega: u32,
-) -> Result<(Fingers, Step), AllocError>
-    requires least { 2 ≤ omega }
-    requires most { omega ≤ 1024 }
-    requires few { length array.old ≤ 1048576 }
+    workers: u32,
+    gate: &G,
+) -> Result<(Fingers, Step), OutOfMemory>
+    requires omega { IsOmega omega }
+    requires workers { AreWorkers workers }
+    requires few { length array.old ≤ MAX_GATES }
     requires stand { All (λ place. IsTrue (stands array.old place)) fingers.now }
     ensures round { IfOk result (λ made. Round rules.now omega (state_of array.old fingers.now) (state_of array.new made.0) made.1) }
     ensures stand { IfOk result (λ made. All (λ place. IsTrue (stands array.new place)) made.0) }
@@ -35,7 +43,16 @@ pub fn work_round(
     let _places = fingers.places();
     let _rows = rules.count();
     let segments = segments_of(alloc, array, fingers, omega)?;
-    let worked = run_round(alloc, array, &segments.jobs, rules, omega)?;
+    let worked = run_round(
+        rt,
+        alloc,
+        array,
+        &segments.jobs,
+        rules,
+        omega,
+        workers,
+        gate,
+    )?;
     let results = worked.as_slice();
     let cuts = segments.cuts(alloc, array, results)?;
     let settled = fingers.settle(alloc, cuts.as_slice())?;
@@ -48,7 +65,7 @@ pub fn work_round(
 
 /// The numbers of a round with these results, which removed so many gates.
 fn step_of(results: &[Worked], removed: u64) -> Step
-    requires { length results.now ≤ 1048576 }
+    requires { length results.now ≤ MAX_GATES }
     ensures numbers { AreNumbersOf results.now result }
     ensures removed { result.removed ≡ removed }
 {
@@ -67,7 +84,7 @@ fn step_of(results: &[Worked], removed: u64) -> Step
 }
 
 /// The fingers, each moved to the next live place, or to the end.
-fn moved_on(alloc: Global, array: &GateArray, fingers: Fingers) -> Result<Fingers, AllocError>
+fn moved_on(alloc: Global, array: &GateArray, fingers: Fingers) -> Result<Fingers, OutOfMemory>
     requires { All (λ place. place ≤ length array.now) fingers }
     ensures { IfOk result (λ moved. AreMoved array.now fingers moved) }
 {

@@ -4,15 +4,17 @@ ghost use Rattle.std.specs.List.{AllZip};
 ghost use Rattle.pq_array.specs.Cells.{live, rank, IsLive};
 ghost use Rattle.pq_gaps.specs.Gaps.{GapCut, segment_from, segment_to};
 ghost use Rattle.pq_finger.specs.Ranks.{IsAtPlaces};
+ghost use Rattle.pq_limits.specs.Limits.{IsOmega};
 ghost use Rattle.pq_method.specs.Round.{cut_of};
 ghost use Rattle.pq_loop.specs.Segments.{stands, AreOfRun, AreJobs, AreSegments, AreOfFingers, IsCutHere, works_in};
 
 use pq_array::GateArray;
 use pq_board::Jobs;
 use pq_finger::{Cut, Fingers};
-use pq_io::PlaceList;
+use pq_limits::MAX_GATES;
+use pq_list::{OutOfMemory, PlaceList};
 use pq_oracle::Worked;
-use std::alloc::{AllocError, Global};
+use std::alloc::Global;
 
 /// The segments of the selected fingers of a round.
 #[derive(Drop)]
@@ -37,10 +39,9 @@ pub fn segments_of(
     array: &GateArray,
     fingers: &Fingers,
     omega: u32,
-) -> Result<Segments, AllocError>
-    requires least { 2 ≤ omega }
-    requires most { omega ≤ 1024 }
-    requires few { length array.now ≤ 1048576 }
+) -> Result<Segments, OutOfMemory>
+    requires omega { IsOmega omega }
+    requires few { length array.now ≤ MAX_GATES }
     requires stand { All (λ place. IsTrue (stands array.now place)) fingers.now }
     ensures omega { IfOk result (λ segments. segments.omega ≡ omega) }
     ensures segments { IfOk result (λ segments. AreSegments array.now segments) }
@@ -61,7 +62,7 @@ pub fn segments_of(
 }
 
 /// The gaps of fingers.
-pub fn gaps_of(alloc: Global, array: &GateArray, fingers: &Fingers) -> Result<Vec<u64>, AllocError>
+pub fn gaps_of(alloc: Global, array: &GateArray, fingers: &Fingers) -> Result<Vec<u64>, OutOfMemory>
     requires { All (λ place. IsTrue (stands array.now place)) fingers.now }
     ensures gaps { IfOk result (λ gaps. gaps.items ≡ map (rank array.now) fingers.now) }
     ensures rising { IfOk result (λ gaps. IsStrictlyIncreasing gaps.items) }
@@ -70,7 +71,7 @@ pub fn gaps_of(alloc: Global, array: &GateArray, fingers: &Fingers) -> Result<Ve
 }
 
 /// The ranks of places.
-fn ranks_of(alloc: Global, array: &GateArray, places: &[u64]) -> Result<Vec<u64>, AllocError>
+fn ranks_of(alloc: Global, array: &GateArray, places: &[u64]) -> Result<Vec<u64>, OutOfMemory>
     requires { All (λ place. place ≤ length array.now) places.now }
     ensures { IfOk result (λ ranks. ranks.items ≡ map (rank array.now) places.now) }
 {
@@ -78,7 +79,7 @@ fn ranks_of(alloc: Global, array: &GateArray, places: &[u64]) -> Result<Vec<u64>
 }
 
 /// The gaps with these indexes.
-fn picked(alloc: Global, gaps: &[u64], indexes: &[u64]) -> Result<Vec<u64>, AllocError>
+fn picked(alloc: Global, gaps: &[u64], indexes: &[u64]) -> Result<Vec<u64>, OutOfMemory>
     requires { All (λ index. index < length gaps.now) indexes.now }
     ensures { IfOk result (λ list. list.items ≡ map (slice_index gaps.now) indexes.now) }
 {
@@ -89,10 +90,9 @@ fn picked(alloc: Global, gaps: &[u64], indexes: &[u64]) -> Result<Vec<u64>, Allo
 }
 
 /// For each gap the places of the gates of its segment.
-fn jobs_of(alloc: Global, array: &GateArray, gaps: &[u64], omega: u32) -> Result<Jobs, AllocError>
-    requires least { 2 ≤ omega }
-    requires most { omega ≤ 1024 }
-    requires few { length array.now ≤ 1048576 }
+fn jobs_of(alloc: Global, array: &GateArray, gaps: &[u64], omega: u32) -> Result<Jobs, OutOfMemory>
+    requires omega { IsOmega omega }
+    requires few { length array.now ≤ MAX_GATES }
     requires apart { AllPairs (λ gap later. gap + 2 * omega ≤ later) gaps.now }
     requires inside { All (λ gap. gap ≤ length (live array.now)) gaps.now }
     ensures { IfOk result (λ jobs. AreJobs array.now omega gaps.now jobs) }
@@ -110,7 +110,7 @@ fn jobs_of(alloc: Global, array: &GateArray, gaps: &[u64], omega: u32) -> Result
 /// The gaps from which and to which the segment of the finger at a gap goes.
 fn segment(gap: u64, live: u64, omega: u32) -> (u64, u64)
     requires gap { gap ≤ live }
-    requires few { live ≤ 1048576 }
+    requires few { live ≤ MAX_GATES }
     ensures from { result.0 ≡ segment_from omega gap }
     ensures to { result.1 ≡ segment_to omega live gap }
 {
@@ -123,7 +123,7 @@ fn put_places(list: &mut Vec<u64>, array: &GateArray, from: u64, to: u64)
     requires up { from ≤ to }
     requires inside { to ≤ length (live array.now) }
     requires room { to ≤ from + vec_capacity list.old }
-    requires few { length array.now ≤ 1048576 }
+    requires few { length array.now ≤ MAX_GATES }
     ensures places { AreOfRun array.now from to list.new.items }
     ensures rising { IsStrictlyIncreasing list.new.items }
     ensures capacity { vec_capacity list.new ≡ vec_capacity list.old }
@@ -163,7 +163,7 @@ fn live_from(array: &GateArray, place: u64) -> u64
 /// What the round did at a finger of this index and gap.
 fn cut_at(array: &GateArray, finger: u64, gap: u64, omega: u32, improved: bool) -> Cut
     requires gap { gap ≤ length (live array.now) }
-    requires few { length array.now ≤ 1048576 }
+    requires few { length array.now ≤ MAX_GATES }
     ensures { (places : List ℕ) (gaps : GapCut) → IsCutHere (length (live array.now)) omega gap improved gaps →
         finger < length places → rank array.now (slice_index places finger) ≡ gap →
         IsAtPlaces (rank array.now) (stands array.now) (length (live array.now)) places gaps result }
@@ -187,11 +187,11 @@ impl Segments {
         alloc: Global,
         array: &GateArray,
         results: &[Worked],
-    ) -> Result<Vec<Cut>, AllocError>
+    ) -> Result<Vec<Cut>, OutOfMemory>
         requires segments { AreSegments array.now self.now }
         requires fingers { length self.now.fingers.items ≡ length self.now.gaps.items }
         requires results { length results.now ≡ length self.now.gaps.items }
-        requires few { length array.now ≤ 1048576 }
+        requires few { length array.now ≤ MAX_GATES }
         ensures { IfOk result (λ cuts. (places : List ℕ) → AreOfFingers array.now places self.now →
             AllZip (IsAtPlaces (rank array.now) (stands array.now) (length (live array.now)) places)
             (map cut_of (works_in array.now self.now results.now)) cuts.items) }

@@ -1,11 +1,14 @@
 ghost use Rattle.std.specs.Prelude.{◌≤◌, length};
+ghost use Rattle.pq_limits.specs.Limits.{IsOmega};
 
 use crate::{Finished, Loop, Step};
 use pq_gate::{Eighths, Gate};
+use pq_list::OutOfMemory;
+use pq_round::OpenGate;
 use pq_rules::Rules;
-use std::alloc::AllocError;
 use std::process::Abort;
 use std::test::Fail;
+use std::thread::Threads;
 
 fn h(wire: u32) -> Gate {
     Gate::H { wire }
@@ -33,7 +36,7 @@ fn has_fingers_at(
     rt: &(impl Abort + AllocGlobal),
     state: &Loop,
     want: &[u64],
-) -> Result<(), AllocError> {
+) -> Result<(), OutOfMemory> {
     let gaps = state.gaps(rt.alloc())?;
     assert!(rt; gaps.as_slice() == want, "{gaps:?}, but wanted {want:?}");
     assert_eq!(rt; state.fingers_left(), want.len() as u64);
@@ -46,10 +49,9 @@ fn opened(
     gates: &[Gate],
     omega: u32,
     want: &[u64],
-) -> Result<Loop, AllocError>
+) -> Result<Loop, OutOfMemory>
     requires few { length gates.now ≤ 16 }
-    requires least { 2 ≤ omega }
-    requires most { omega ≤ 1024 }
+    requires omega { IsOmega omega }
 {
     let rules = Rules::builtin(rt.alloc())?;
     let made = Loop::open(rt.alloc(), gates, omega, rules)?;
@@ -57,15 +59,15 @@ fn opened(
     Ok(made)
 }
 
-// Makes a round. These numbers are wanted, and these gaps of the fingers after it.
+// Makes a round with four workers. These numbers are wanted, and these gaps of the fingers after it.
 fn next(
-    rt: &(impl Abort + AllocGlobal),
+    rt: &(impl Abort + AllocGlobal + Threads + Sync),
     before: Loop,
     want: Step,
     gaps: &[u64],
-) -> Result<Loop, AllocError> {
+) -> Result<Loop, OutOfMemory> {
     assert!(rt; !before.is_done());
-    let (after, step) = before.round(rt.alloc())?;
+    let (after, step) = before.round(rt, rt.alloc(), 4, &OpenGate)?;
     assert_eq!(rt; step, want);
     has_fingers_at(rt, &after, gaps)?;
     Ok(after)
@@ -76,7 +78,7 @@ fn end(
     rt: &(impl Abort + AllocGlobal),
     last: Loop,
     gates: &[Gate],
-) -> Result<Finished, AllocError> {
+) -> Result<Finished, OutOfMemory> {
     assert!(rt; last.is_done());
     let left = last.finish(rt.alloc())?;
     assert!(rt; left.gates.as_slice() == gates, "{gates:?}");

@@ -1,5 +1,5 @@
 -- The kinds of the gates that share a wire with the first gate of a match, and that it may be moved up to.
-use Rattle.std.proofs.Common.{◌≡◌, ◌≢◌, ℕ, zero, suc, ◌+◌, ◌<◌, ◌≤◌, Bool, true, false, List, [], ◌∷◌, length, get_or, set, inl, inr, ◌⊎◌, sym, ap, subst, ◌∙◌, arith}
+use Rattle.std.proofs.Common.{◌≡◌, ◌≢◌, ℕ, zero, suc, ◌+◌, ◌<◌, ◌≤◌, Bool, true, false, IsTrue, ◌↔◌, List, [], ◌∷◌, length, get_or, set, inl, inr, ◌⊎◌, sym, ap, subst, ◌∙◌, arith}
 use Rattle.std.proofs.lemmas.Bool.{cases_order}
 use Rattle.std.proofs.lemmas.Grind.{get_or-set_at}
 use Rattle.std.proofs.lemmas.List.{length-set, get_or-set_other}
@@ -67,6 +67,13 @@ near_stops {gates} {start} {place} {end} {near} so_far behind stuck p w next ins
     by (inr (inr more)) =
         absurd (stuck (next.clear 0 place (omega arith) (λ s below same. (let e : s ≡ 0 = omega arith in
         let f : start ≡ place = subst (λ (k : ℕ). get_or (start ∷ []) k 0 ≡ place) e same in omega arith)) behind more))
+
+-- whose kind is the last that is put in,
+pub near_stops_at : {gates : List Gate} {start place end : ℕ} {near : List Bool} {kind : ℕ} {commuting : Bool} → IsNear gates start place near →
+    kind ≡ number_of (kind_of (gate_at gates place)) → kind < KINDS → start < place → IsTrue commuting ↔ Commutes (gate_at gates start) (gate_at gates place) → commuting ≡ false →
+    HasKindsNear gates start end (set near kind true)
+near_stops_at so_far is few behind commuting stuck =
+    near_stops (near_grows so_far is few) behind (λ alike. absurd (let yes = commuting.1 alike in cc))
 
 -- or up to the end, these are all kinds.
 pub near_ends : {gates : List Gate} {start place end : ℕ} {near : List Bool} → IsNear gates start place near → end ≤ place → HasKindsNear gates start end near

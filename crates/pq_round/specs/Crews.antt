@@ -1,5 +1,5 @@
 -- What workers give back.
-use Rattle.std.specs.Prelude.{◌≡◌, ℕ, ◌<◌, Bool, Option, List, [], All, length, map, slice_index_or}
+use Rattle.std.specs.Prelude.{ℕ, ◌<◌, Bool, Option, List, [], All, length, map, slice_index_or}
 use Rattle.pq_gate.specs.declared.gate.Gate.{Gate}
 use Rattle.pq_rules.specs.Row.{RowView}
 use Rattle.pq_oracle.specs.Outcomes.{WorkedView}

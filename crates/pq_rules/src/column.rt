@@ -12,7 +12,7 @@ ghost use Rattle.pq_rules.specs.Columns.{HasWeights, IsMatrix};
 ghost use Rattle.pq_rules.specs.States.{state};
 
 use pq_gate::{Gate, Ring};
-use pq_limits::MAX_ROW_WIRES;
+use pq_limits::{MAX_ROW_GATES, MAX_ROW_WIRES};
 
 const ZERO: Ring = Ring {
     a: 0,
@@ -44,7 +44,7 @@ pub fn states(wires: u8) -> u8
 
 // the number of the state whose only 1 is this wire's
 fn mask(wire: u32) -> u8
-    requires { wire < 3 }
+    requires { wire < MAX_ROW_WIRES }
     ensures value { result ≡ 2 ^ wire }
     ensures few { result ≤ 4 }
 {
@@ -58,7 +58,7 @@ fn mask(wire: u32) -> u8
 // the value of a wire
 fn has_bit(number: u8, wire: u32) -> bool
     requires number { number < 8 }
-    requires wire { wire < 3 }
+    requires wire { wire < MAX_ROW_WIRES }
     ensures { (n : ℕ) → n ≤ MAX_ROW_WIRES → wire < n → result ≡ bit (state n number) wire }
 {
     number / mask(wire) % 2 == 1
@@ -67,7 +67,7 @@ fn has_bit(number: u8, wire: u32) -> bool
 // the number of the state with the wire's value changed
 fn with_bit(number: u8, wire: u32, value: bool) -> u8
     requires number { number < 8 }
-    requires wire { wire < 3 }
+    requires wire { wire < MAX_ROW_WIRES }
     ensures number { result < 8 }
     ensures state { (n : ℕ) → n ≤ MAX_ROW_WIRES → wire < n → state n result ≡ slice_set (state n number) wire value }
 {
@@ -124,7 +124,7 @@ fn root_times(ring: Ring) -> Ring
 // the number of the state with the wire's value changed where `by` is true
 fn toggled_bit(number: u8, wire: u32, by: bool) -> u8
     requires number { number < 8 }
-    requires wire { wire < 3 }
+    requires wire { wire < MAX_ROW_WIRES }
     ensures number { result < 8 }
     ensures state { (n : ℕ) → n ≤ MAX_ROW_WIRES → wire < n → state n result ≡ toggled (state n number) wire by }
 {
@@ -154,7 +154,7 @@ fn turned_where(bit: bool, k: u8, ring: Ring) -> Ring
 
 // √2^k
 fn root_power(k: u8) -> Ring
-    requires { k ≤ 8 }
+    requires { k ≤ MAX_ROW_GATES }
     ensures { result ≡ rooted k one }
 {
     let mut power = ONE;
@@ -166,7 +166,7 @@ fn root_power(k: u8) -> Ring
 
 // what the gate gives from a state on, where `rest` is what the later gates give
 fn entry_through(gate: Gate, rest: &[Ring; 8], from: u8) -> Ring
-    requires gate { IsOnWires 3 gate }
+    requires gate { IsOnWires MAX_ROW_WIRES gate }
     requires from { from < 8 }
     requires rest { IsColumnWithin 16384 rest.now }
     ensures { (n : ℕ) (f : List Bool → Ring) → n ≤ MAX_ROW_WIRES → IsOnWires n gate → HasWeights n rest.now f →
@@ -190,7 +190,7 @@ fn entry_through(gate: Gate, rest: &[Ring; 8], from: u8) -> Ring
 
 // what the gate gives from each state on
 fn column_through(gate: Gate, rest: &[Ring; 8]) -> [Ring; 8]
-    requires gate { IsOnWires 3 gate }
+    requires gate { IsOnWires MAX_ROW_WIRES gate }
     requires rest { IsColumnWithin 16384 rest.now }
     ensures { (n : ℕ) (f : List Bool → Ring) → n ≤ MAX_ROW_WIRES → IsOnWires n gate → HasWeights n rest.now f →
         HasWeights n result (λ x. through gate f x) }
@@ -222,7 +222,7 @@ pub fn column_of(gates: &[Gate], wires: u8, roots: u8, to: u8) -> [Ring; 8]
     requires wires { wires ≤ MAX_ROW_WIRES }
     requires gates { IsCircuit wires gates.now }
     requires to { to < 2 ^ wires }
-    requires roots { roots ≤ 8 }
+    requires roots { roots ≤ MAX_ROW_GATES }
     requires few { roots + length gates.now ≤ 15 }
     ensures { HasWeights wires result (λ x. rooted roots (Entry gates.now x (state wires to))) }
 {
@@ -239,7 +239,7 @@ pub fn column_of(gates: &[Gate], wires: u8, roots: u8, to: u8) -> [Ring; 8]
 pub fn matrix_of(gates: &[Gate], wires: u8, roots: u8) -> [[Ring; 8]; 8]
     requires wires { wires ≤ MAX_ROW_WIRES }
     requires gates { IsCircuit wires gates.now }
-    requires roots { roots ≤ 8 }
+    requires roots { roots ≤ MAX_ROW_GATES }
     requires few { roots + length gates.now ≤ 15 }
     ensures { IsMatrix wires roots gates.now result }
 {

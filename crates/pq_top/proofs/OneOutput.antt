@@ -15,6 +15,7 @@ use Rattle.pq_write.specs.Report.{report_text}
 use Rattle.pq_generate.specs.Generated.{generated}
 use Rattle.pq_command.specs.declared.settings.Settings.{Settings}
 use Rattle.pq_command.specs.declared.settings.Settings.TheVariants as settings
+use Rattle.pq_top.specs.Request.{DifferInWorkers}
 use Rattle.pq_top.specs.Outputs.{with_gates, report_of, redex_line, IsOptimised, IsOptText, NamesRedex, SaysLocal, IsCheckText, IsBenchText, Makes}
 
 one_program : (options : Options) (text : List ℕ) (p q : ProgramView) → Reads text options p → Reads text options q → p ≡ q
@@ -71,3 +72,16 @@ one_output (settings.Check w drops) text status another output other left right 
 one_output (settings.Gen seed qubits gates) text status another output other left right = (left.0 ∙ sym right.0, left.1 ∙ sym right.1)
 one_output (settings.Bench w workers seed qubits gates) text status another output other left right =
     (left.0 ∙ sym right.0, one_bench w seed qubits gates output other left.1 right.1)
+
+-- what settings make, others make that differ in the workers alone
+pub made_by_others : (wanted others : Settings) (text : List ℕ) (status : ℕ) (output : List ℕ) → DifferInWorkers wanted others → Makes wanted text status output →
+    Makes others text status output
+made_by_others (settings.Opt w workers drops) others text status output differ makes = subst (λ (s : Settings). Makes s text status output) (sym differ.1) makes
+made_by_others (settings.Bench w workers seed qubits gates) others text status output differ makes =
+    subst (λ (s : Settings). Makes s text status output) (sym differ.1) makes
+made_by_others _ others text status output differ makes = absurd differ
+
+pub one_output_of_others : (wanted others : Settings) (text : List ℕ) (status another : ℕ) (output other : List ℕ) → DifferInWorkers wanted others →
+    Makes wanted text status output → Makes others text another other → (status ≡ another) × (output ≡ other)
+one_output_of_others wanted others text status another output other differ left right =
+    one_output others text status another output other (made_by_others wanted others text status output differ left) right

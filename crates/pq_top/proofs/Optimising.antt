@@ -18,7 +18,7 @@ use Rattle.pq_loop.specs.Loops.{LoopView}
 use Rattle.pq_loop.specs.Opt.{Total, phase_of, Opt, Local}
 use Rattle.pq_loop.specs.Counted.{IsCounted, IsEndOf}
 use Rattle.pq_method.proofs.Ending.{opt_local, opt_same, opt_bound}
-use Rattle.pq_write.specs.declared.report.Report.{Report}
+use Rattle.pq_write.specs.declared.report.ReportNumbers.{ReportNumbers}
 use Rattle.pq_write.specs.Report.{report_text}
 use Rattle.pq_generate.specs.Generated.{generated}
 use Rattle.pq_top.specs.Outputs.{with_gates, report_of, KeepsMatrix, IsOptimised, IsOptText, IsBenchText}
@@ -108,7 +108,7 @@ optimised_by w program given finished given_is formed is keeps local bound = rec
     few = subst (λ (gates : List Gate). finished.calls ≤ length (first_fingers (length gates) w) + 2 * (length gates - length finished.gates.items)) given_is bound
 
 -- the numbers of a report, where the gates that were handed on are these
-abbrev pub numbers_of : ℕ → ℕ → Finished → Report
+abbrev pub numbers_of : ℕ → ℕ → Finished → ReportNumbers
 numbers_of count fingers finished = record {
   gates_in = count;
   gates_out = length finished.gates.items;
@@ -130,7 +130,7 @@ reported w count fingers gates total finished counted count_is fingers_are = λ 
 }
 
 -- the text that is written with its report is the optimised one
-pub opt_text_by : (w count : ℕ) (text output : List ℕ) (options : Options) (p : Program) (given : List Gate) (finished : Finished) (report : Report) →
+pub opt_text_by : (w count : ℕ) (text output : List ℕ) (options : Options) (p : Program) (given : List Gate) (finished : Finished) (report : ReportNumbers) →
     given ≡ p.gates.items → count ≡ length p.gates.items → WellFormed (view p) → Reads text options (view p) →
     IsEndOf builtin_rows w given finished → KeepsMatrix given finished.gates.items finished.phase → Local builtin_rows w finished.gates.items →
     finished.calls ≤ length (first_fingers (length given) w) + 2 * (length given - length finished.gates.items) →
@@ -149,7 +149,7 @@ opt_text_by w count text output options p given finished report given_is long fo
 }
 
 -- and so is the report on a generated program
-pub bench_text_by : (w seed qubits gates count : ℕ) (output : List ℕ) (p : Program) (given : List Gate) (finished : Finished) (report : Report) →
+pub bench_text_by : (w seed qubits gates count : ℕ) (output : List ℕ) (p : Program) (given : List Gate) (finished : Finished) (report : ReportNumbers) →
     given ≡ p.gates.items → count ≡ length p.gates.items → view p ≡ generated seed qubits gates → WellFormed (view p) →
     IsEndOf builtin_rows w given finished → KeepsMatrix given finished.gates.items finished.phase → Local builtin_rows w finished.gates.items →
     finished.calls ≤ length (first_fingers (length given) w) + 2 * (length given - length finished.gates.items) →

@@ -1,6 +1,7 @@
 -- What a status says, from what came of the work.
 use Rattle.std.proofs.Common.{◌≡◌, ℕ, ◌+◌, ◌≤◌, Bool, true, false, List, Option, None, Some, Err, refl, sym, ap, subst, ◌∙◌, inl, inr, arith}
 use Rattle.std.specs.Prelude.{IfSome}
+use Rattle.pq_limits.specs.declared.TheConstants.{MAX_INPUT}
 use Rattle.pq_io.specs.Whole.{ReadsToEnd, TakesFirst}
 use Rattle.pq_read.specs.declared.program.Options.{Options}
 use Rattle.pq_read.specs.Reads.{Reads, Refused as RefusedFor}
@@ -12,7 +13,7 @@ use Rattle.pq_top.specs.declared.answer.Answer.TheVariants.{Done, Usage, Refused
 use Rattle.pq_top.specs.declared.answer.Refusal.{Refusal}
 use Rattle.pq_top.specs.declared.answer.Refusal.TheVariants.{Text, TooLong}
 use Rattle.pq_top.specs.Device.{Moved, HasFaulted, Noted}
-use Rattle.pq_top.specs.Outputs.{IsAccepted, input_limit}
+use Rattle.pq_top.specs.Outputs.{IsAccepted}
 use Rattle.pq_top.specs.Request.{AskFor, AskToRead, reads_by}
 use Rattle.pq_top.specs.Answers.{Refuses, IsRefused, IsDoneUnlessMemory}
 use Rattle.pq_top.specs.Work.{Means, status_of, status_by, note_line}
@@ -25,7 +26,7 @@ found_below false = omega arith
 pub refused : (answer : Answer) (words : List (List ℕ)) (input output notes : Moved) → Means words input output answer →
     Noted notes (note_line answer) → status_of answer ≡ 3 → IsRefused words input notes
 refused (Refused refusal) words input output notes means noted e =
-    record { refusal = refusal; options = means.options; asks = means.asks; refuses = means.refuses; noted = noted }
+    record { refusal = refusal; refused = means; noted = noted }
 refused (Done found) words input output notes means noted e = absurd (omega (arith, found_below found))
 refused _ words input output notes means noted e = absurd (omega arith)
 
@@ -62,11 +63,11 @@ text_left before after limit text left e reads =
 not_refused : {B : Type 0} (refusal : Refusal) (input : Moved) (options : Options) (left : List ℕ) → Refuses options input refusal →
     input.before ≡ Some left → IsAccepted options left → B
 not_refused TooLong input options left refuses e good =
-    let P : Option (List ℕ) → Type 0 = λ o. TakesFirst o input.after (input_limit + 1) in
-    let there : TakesFirst (Some left) input.after (input_limit + 1) = subst P e refuses in
+    let P : Option (List ℕ) → Type 0 = λ o. TakesFirst o input.after (MAX_INPUT + 1) in
+    let there : TakesFirst (Some left) input.after (MAX_INPUT + 1) = subst P e refuses in
     absurd (omega (arith, there.0, good.within))
 not_refused (Text fault) input options left refuses e good =
-    let all : refuses.0 ≡ left = text_left input.before input.after input_limit refuses.0 left e refuses.1 in
+    let all : refuses.0 ≡ left = text_left input.before input.after MAX_INPUT refuses.0 left e refuses.1 in
     let Q : List ℕ → Type 0 = λ l. RefusedFor l options fault.kind fault.line fault.column in
     let there : RefusedFor left options fault.kind fault.line fault.column = subst Q all refuses.2 in
     let read : Reads left options good.program = good.read in

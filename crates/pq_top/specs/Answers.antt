@@ -1,6 +1,7 @@
 -- What each status says.
 use Rattle.std.specs.Prelude.{◌≡◌, ℕ, ◌+◌, ◌⊎◌, List, Option, Some, None, Err}
 use Rattle.std.specs.Io.KnownBytes.{Appends}
+use Rattle.pq_limits.specs.declared.TheConstants.{MAX_INPUT}
 use Rattle.pq_io.specs.Whole.{ReadsToEnd, ReadsUpToFault, WritesUpToFault, TakesFirst}
 use Rattle.pq_read.specs.declared.program.Options.{Options}
 use Rattle.pq_read.specs.Reads.{Refused}
@@ -11,13 +12,13 @@ use Rattle.pq_top.specs.declared.answer.Refusal.{Refusal}
 use Rattle.pq_top.specs.declared.answer.Refusal.TheVariants.{Text, TooLong}
 use Rattle.pq_top.specs.Device.{Moved, Noted}
 use Rattle.pq_top.specs.Request.{AskFor, AskToRead, reads_by}
-use Rattle.pq_top.specs.Outputs.{Makes, input_limit}
+use Rattle.pq_top.specs.Outputs.{Makes}
 use Rattle.pq_top.specs.Notes.{usage_line, refusal_line, read_fault_line, write_fault_line}
 
 -- where a command reads a text, the source was read to its end and gave this one
 abbrev pub HasRead : Option Options → Moved → List ℕ → Type 0
 HasRead None input text = Unit {0}
-HasRead (Some options) input text = ReadsToEnd input.before input.after input_limit text
+HasRead (Some options) input text = ReadsToEnd input.before input.after MAX_INPUT text
 
 -- The words ask for these settings, the text that they want was read to its end, and this status and this output
 -- come of it.
@@ -42,33 +43,44 @@ pub record IsUsage (words : List (List ℕ)) (notes : Moved) : Type 0 where
 
 -- The source gave more bytes than the limit; or it was read to its end, and this is the first fault of its text.
 abbrev pub Refuses : Options → Moved → Refusal → Type 0
-Refuses options input TooLong = TakesFirst input.before input.after (input_limit + 1)
-Refuses options input (Text fault) = (text : List ℕ) × ReadsToEnd input.before input.after input_limit text × Refused text options fault.kind fault.line fault.column
+Refuses options input TooLong = TakesFirst input.before input.after (MAX_INPUT + 1)
+Refuses options input (Text fault) = (text : List ℕ) × ReadsToEnd input.before input.after MAX_INPUT text × Refused text options fault.kind fault.line fault.column
 
--- The words ask for a command that reads a text, the source is refused, and the note says why.
-pub record IsRefused (words : List (List ℕ)) (input notes : Moved) : Type 0 where
-  pub refusal : Refusal
+-- The words ask for a command that reads a text, and the source is refused for this reason.
+pub record HasRefusal (words : List (List ℕ)) (input : Moved) (refusal : Refusal) : Type 0 where
   pub options : Options
   pub asks : AskToRead words options
   pub refuses : Refuses options input refusal
+
+-- The source is refused, and the note says why.
+pub record IsRefused (words : List (List ℕ)) (input notes : Moved) : Type 0 where
+  pub refusal : Refusal
+  pub refused : HasRefusal words input refusal
   pub noted : Noted notes (refusal_line refusal)
 
--- The words ask for a command that reads a text, the source failed after so many bytes, and the note has this
--- number.
-pub record IsReadFault (words : List (List ℕ)) (input notes : Moved) : Type 0 where
-  pub taken : ℕ
+-- The words ask for a command that reads a text, and the source failed after so many bytes.
+pub record HasReadFault (words : List (List ℕ)) (input : Moved) (taken : ℕ) : Type 0 where
   pub options : Options
   pub asks : AskToRead words options
-  pub failed : ReadsUpToFault input.before input.after input.was input.now input_limit taken
+  pub failed : ReadsUpToFault input.before input.after input.was input.now MAX_INPUT taken
+
+-- The source failed, and the note has the number of the bytes before.
+pub record IsReadFault (words : List (List ℕ)) (input notes : Moved) : Type 0 where
+  pub taken : ℕ
+  pub failed : HasReadFault words input taken
   pub noted : Noted notes (read_fault_line taken)
 
--- The output was made, the sink failed after so many bytes of it, and the note has this number.
-pub record IsWriteFault (words : List (List ℕ)) (input output notes : Moved) : Type 0 where
-  pub sent : ℕ
+-- The output was made, and the sink failed after so many bytes of it.
+pub record HasWriteFault (words : List (List ℕ)) (input output : Moved) (sent : ℕ) : Type 0 where
   pub status : ℕ
   pub written : List ℕ
   pub produces : Produces words input status written
   pub failed : WritesUpToFault output.before output.after output.was output.now written sent
+
+-- The sink failed, and the note has the number of the bytes before.
+pub record IsWriteFault (words : List (List ℕ)) (input output notes : Moved) : Type 0 where
+  pub sent : ℕ
+  pub failed : HasWriteFault words input output sent
   pub noted : Noted notes (write_fault_line sent)
 
 -- the statuses that there are

@@ -1,3 +1,4 @@
+pub use Rattle.pq_limits.specs.Limits
 pub use Rattle.pq_gate.specs.Circuit
 pub use Rattle.pq_gate.specs.Matrix
 pub use Rattle.pq_gate.specs.Ring
@@ -21,6 +22,7 @@ pub use Rattle.pq_write.specs.Report
 pub use Rattle.pq_generate.specs.Generated
 pub use Rattle.pq_command.specs.CommandLine
 pub use Rattle.pq_command.specs.Asked
+pub use Rattle.pq_command.specs.Ranges
 pub mod Device
 pub mod Request
 pub mod Outputs

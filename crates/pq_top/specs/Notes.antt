@@ -1,5 +1,6 @@
 -- The lines that are put into the notes.
 use Rattle.std.specs.Prelude.{ℕ, List, ◌++◌, codes, decimal}
+use Rattle.pq_limits.specs.declared.TheConstants.{MAX_INPUT}
 use Rattle.pq_read.specs.Kinds.{number_of, name_of}
 use Rattle.pq_read.specs.declared.refusal.Refusal.{Refusal as Fault}
 use Rattle.pq_command.specs.CommandLine.{name_of as switch_name}
@@ -35,7 +36,7 @@ fault_line fault =
 
 unfoldable pub refusal_line : Refusal → List ℕ
 refusal_line (Text fault) = fault_line fault
-refusal_line TooLong = codes "popqc: refused: more than 67108864 bytes\n"
+refusal_line TooLong = codes "popqc: refused: more than " ++ (decimal MAX_INPUT ++ codes " bytes\n")
 
 unfoldable pub read_fault_line : ℕ → List ℕ
 read_fault_line taken = codes "popqc: read fault after " ++ (decimal taken ++ codes " bytes\n")

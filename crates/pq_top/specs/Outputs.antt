@@ -1,6 +1,7 @@
 -- What each command makes of the program that is read, or generated.
 use Rattle.std.specs.Prelude.{◌≡◌, ℕ, ◌+◌, ◌-◌, ◌*◌, ◌≤◌, ◌⊎◌, List, ◌++◌, length, codes, decimal}
 use Rattle.std.specs.List.{flat_map}
+use Rattle.pq_limits.specs.declared.TheConstants.{MAX_INPUT}
 use Rattle.pq_gate.specs.declared.gate.Gate.{Gate}
 use Rattle.pq_gate.specs.Circuit.{IsCircuit}
 use Rattle.pq_gate.specs.Matrix.{Same}
@@ -13,19 +14,15 @@ use Rattle.pq_match.specs.Redex.{RedexView}
 use Rattle.pq_match.specs.First.{IsFirst, HasNoneWithin}
 use Rattle.pq_loop.specs.Gaps.{first_fingers}
 use Rattle.pq_loop.specs.Opt.{Total, calls_of, phase_of, Opt, Local}
-use Rattle.pq_write.specs.declared.report.Report.{Report}
+use Rattle.pq_write.specs.declared.report.ReportNumbers.{ReportNumbers}
 use Rattle.pq_write.specs.Report.{report_text}
 use Rattle.pq_generate.specs.Generated.{generated}
 use Rattle.pq_command.specs.declared.settings.Settings.{Settings}
 use Rattle.pq_command.specs.declared.settings.Settings.TheVariants as settings
 
--- the most bytes that are accepted
-abbrev pub input_limit : ℕ
-input_limit = 67108864
-
 -- a text that is accepted when it is read in this way: it is within the limit, and stands for a program
 pub record IsAccepted (options : Options) (text : List ℕ) : Type 0 where
-  pub within : length text ≤ input_limit
+  pub within : length text ≤ MAX_INPUT
   pub program : ProgramView
   pub read : Reads text options program
 
@@ -47,7 +44,7 @@ pub record IsOptimised (omega : ℕ) (program : ProgramView) (total : Total) : T
   pub bound : calls_of total.rounds ≤ length (first_fingers (length program.gates) omega) + 2 * (length program.gates - length total.gates)
 
 -- the report on these gates and what rounds left of them
-abbrev pub report_of : ℕ → List Gate → Total → Report
+abbrev pub report_of : ℕ → List Gate → Total → ReportNumbers
 report_of omega gates total = record {
   gates_in = length gates;
   gates_out = length total.gates;

@@ -28,3 +28,11 @@ AskToRead words options = (wanted : Settings) × AskFor words wanted × (reads_b
 -- the words ask for a command that reads no text
 abbrev pub AskToMake : List (List ℕ) → Type 0
 AskToMake words = (wanted : Settings) × AskFor words wanted × (reads_by wanted ≡ None)
+
+-- the settings are both of `opt` or both of `bench`, and they differ in the number of workers at most
+abbrev pub DifferInWorkers : Settings → Settings → Type 0
+DifferInWorkers (settings.Opt omega workers drop_barriers) other =
+    (others : ℕ) × (other ≡ settings.Opt omega others drop_barriers)
+DifferInWorkers (settings.Bench omega workers seed qubits gates) other =
+    (others : ℕ) × (other ≡ settings.Bench omega others seed qubits gates)
+DifferInWorkers _ other = ⊥

@@ -1,6 +1,7 @@
 -- What came of the work, before its note is put and its status answered.
 use Rattle.std.specs.Prelude.{◌≡◌, ℕ, ◌+◌, Bool, if◌then◌else◌, List, [], Some, IsSome, Result, Ok, Err}
 use Rattle.std.specs.Io.KnownBytes.{Appends}
+use Rattle.pq_limits.specs.declared.TheConstants.{MAX_INPUT}
 use Rattle.pq_io.specs.Whole.{ReadsUpToFault, WritesUpToFault, TakesFirst}
 use Rattle.pq_read.specs.declared.program.Options.{Options}
 use Rattle.pq_read.specs.declared.refusal.ReadError.{ReadError}
@@ -14,28 +15,9 @@ use Rattle.pq_top.specs.declared.answer.Refusal.TheVariants.{Text, TooLong}
 use Rattle.pq_top.specs.declared.answer.Answer.TheVariants.{Done, Usage, Refused, ReadFault, WriteFault, OutOfMemory}
 use Rattle.pq_top.specs.Device.{Moved}
 use Rattle.pq_top.specs.Request.{AskToRead, reads_by}
-use Rattle.pq_top.specs.Outputs.{Makes, input_limit}
+use Rattle.pq_top.specs.Outputs.{Makes}
 use Rattle.pq_top.specs.Notes.{usage_line, refusal_line, read_fault_line, write_fault_line, out_of_memory_line}
-use Rattle.pq_top.specs.Answers.{HasRead, Produces, IsDone, Refuses}
-
--- the words ask for a command that reads a text, and the source is refused for this reason
-pub record IsRefusedFor (words : List (List ℕ)) (input : Moved) (refusal : Refusal) : Type 0 where
-  pub options : Options
-  pub asks : AskToRead words options
-  pub refuses : Refuses options input refusal
-
--- the words ask for a command that reads a text, and the source failed after so many bytes
-pub record HasReadFault (words : List (List ℕ)) (input : Moved) (taken : ℕ) : Type 0 where
-  pub options : Options
-  pub asks : AskToRead words options
-  pub failed : ReadsUpToFault input.before input.after input.was input.now input_limit taken
-
--- the output was made, and the sink failed after so many bytes of it
-pub record HasWriteFault (words : List (List ℕ)) (input output : Moved) (sent : ℕ) : Type 0 where
-  pub status : ℕ
-  pub written : List ℕ
-  pub produces : Produces words input status written
-  pub failed : WritesUpToFault output.before output.after output.was output.now written sent
+use Rattle.pq_top.specs.Answers.{HasRead, HasRefusal, HasReadFault, HasWriteFault, IsDone, Refuses}
 
 -- the status of work that was done: 1 where it found a redex
 abbrev pub status_by : Bool → ℕ
@@ -45,7 +27,7 @@ status_by found = if found then 1 else 0
 abbrev pub Means : List (List ℕ) → Moved → Moved → Answer → Type 0
 Means words input output (Done found) = IsDone words input output (status_by found)
 Means words input output (Usage fault) = asked words ≡ Err fault
-Means words input output (Refused refusal) = IsRefusedFor words input refusal
+Means words input output (Refused refusal) = HasRefusal words input refusal
 Means words input output (ReadFault taken) = HasReadFault words input taken
 Means words input output (WriteFault sent) = HasWriteFault words input output sent
 Means words input output OutOfMemory = Unit {0}
@@ -86,8 +68,8 @@ note_line OutOfMemory = out_of_memory_line
 
 -- the source failed, or gave too many bytes, whatever the settings that make a command read it
 abbrev pub FailsToRead : Moved → Answer → Type 0
-FailsToRead input (Refused TooLong) = TakesFirst input.before input.after (input_limit + 1)
-FailsToRead input (ReadFault taken) = ReadsUpToFault input.before input.after input.was input.now input_limit taken
+FailsToRead input (Refused TooLong) = TakesFirst input.before input.after (MAX_INPUT + 1)
+FailsToRead input (ReadFault taken) = ReadsUpToFault input.before input.after input.was input.now MAX_INPUT taken
 FailsToRead input OutOfMemory = Unit {0}
 FailsToRead input _ = ⊥
 
@@ -100,7 +82,7 @@ pub record Gives (wanted : Settings) (input : Moved) (output : Output) : Type 0 
 -- none does, since the command reads a text and the source failed or was refused, or memory was
 abbrev pub FailsFor : Settings → Moved → Answer → Type 0
 FailsFor wanted input (Refused refusal) = (options : Options) × (reads_by wanted ≡ Some options) × Refuses options input refusal
-FailsFor wanted input (ReadFault taken) = IsSome (reads_by wanted) × ReadsUpToFault input.before input.after input.was input.now input_limit taken
+FailsFor wanted input (ReadFault taken) = IsSome (reads_by wanted) × ReadsUpToFault input.before input.after input.was input.now MAX_INPUT taken
 FailsFor wanted input OutOfMemory = Unit {0}
 FailsFor wanted input _ = ⊥
 

@@ -5,18 +5,15 @@ ghost use Rattle.pq_command.specs.Ranges.{IsInRange};
 ghost use Rattle.pq_top.specs.declared.answer.Answer.TheVariants.{OutOfMemory};
 ghost use Rattle.pq_top.specs.Device.{moved};
 ghost use Rattle.pq_top.specs.Request.{AskToMake, reads_by};
-ghost use Rattle.pq_top.specs.Outputs.{input_limit};
 ghost use Rattle.pq_top.specs.Work.{Means, LeavesSource, LeavesSink, Gives, FailsFor, FailsToRead, WritesOutput, answered_by};
 
 use crate::check::checked;
 use crate::optimise::{benched, generated_text, optimised};
 use pq_command::{Settings, UsageFault, WordsError, read_words};
 use pq_io::{ByteList, ReadWhole, Sink, Source, read_whole, write_whole};
+use pq_limits::MAX_INPUT;
 use pq_read::{Options, ReadError};
 use std::alloc::{AllocError, Global};
-
-/// The most bytes of a text.
-pub const MAX_INPUT: u64 = 67_108_864;
 
 /// Why a text is refused.
 #[derive(Clone, Copy, Debug, PartialEq, Eq)]
@@ -55,6 +52,7 @@ impl From<AllocError> for Answer {
 }
 
 /// Does what the words ask for: reads the text, where the command wants one, makes the output and writes it.
+#[tactic(auto, using(crate::proofs::Working::failed_means))]
 pub fn work<S: Source, K: Sink>(
     alloc: Global,
     words: &[String],
@@ -146,7 +144,7 @@ fn answered(made: Result<Output, ReadError>) -> Result<Output, Answer>
 
 /// The whole text that the source gives.
 fn source_text<S: Source>(alloc: Global, source: &mut S) -> Result<ByteList, Answer>
-    ensures text { IfOk result (λ text. ReadsToEnd (S.left source.old) (S.left source.new) input_limit text.items) }
+    ensures text { IfOk result (λ text. ReadsToEnd (S.left source.old) (S.left source.new) MAX_INPUT text.items) }
     ensures fault { IfErr result (FailsToRead (moved S.left S.faults source.old source.new)) }
 {
     match read_whole(alloc, source, MAX_INPUT) {

@@ -1,16 +1,18 @@
-ghost use Rattle.std.specs.Prelude.{◌≡◌, ◌≤◌, ◌++◌, ℕ, List, length, decimal, flat_map, IfOk, IfErr, OnOk};
+ghost use Rattle.std.specs.Prelude.{◌≡◌, ◌≤◌, ◌++◌, ℕ, List, length, flat_map, IfOk, IfErr, OnOk};
+ghost use Rattle.pq_limits.specs.Limits.{IsOmega};
 ghost use Rattle.pq_match.specs.Found.{seen};
 ghost use Rattle.pq_read.specs.Reads.{IsRefusedFor};
-ghost use Rattle.pq_top.specs.Outputs.{input_limit, spaced, redex_line, local_line, IsCheckText};
+ghost use Rattle.pq_top.specs.Outputs.{spaced, redex_line, local_line, IsCheckText};
 ghost use Rattle.pq_top.specs.Work.{status_by};
 
 use crate::answer::Output;
-use itoa::Buffer;
-use pq_io::ByteList;
+use pq_io::{ByteList, OutOfMemory};
+use pq_limits::MAX_INPUT;
 use pq_match::{Redex, find_within};
 use pq_read::{Options, ReadError, read_text};
 use pq_rules::Rules;
-use std::alloc::{AllocError, Global};
+use pq_write::push_number;
+use std::alloc::Global;
 
 /// Names the first redex of the program that a text stands for whose span is at most Omega, or says that
 /// there is none. Beside the program and the rules it takes memory for one line. Omega is 2 to 1,024.
@@ -21,9 +23,8 @@ pub fn checked(
     options: Options,
     omega: u32,
 ) -> Result<Output, ReadError>
-    requires within { length text.items ≤ input_limit }
-    requires least { 2 ≤ omega }
-    requires most { omega ≤ 1024 }
+    requires within { length text.items ≤ MAX_INPUT }
+    requires omega { IsOmega omega }
     ensures found { IfOk result (λ output. IsCheckText omega options text.items (status_by output.found) output.text.items) }
     ensures refused { IfErr result (IsRefusedFor text.items options) }
 {
@@ -44,7 +45,7 @@ pub fn checked(
 
 /// The line that there is no redex.
 #[tactic(auto, unfolding(crate::specs::Outputs::local_line))]
-fn local_text(alloc: Global) -> Result<ByteList, AllocError>
+fn local_text(alloc: Global) -> Result<ByteList, OutOfMemory>
     ensures { IfOk result (λ text. text.items ≡ local_line) }
 {
     let line = Vec::from_slice(alloc, b"local\n")?;
@@ -56,13 +57,12 @@ fn local_text(alloc: Global) -> Result<ByteList, AllocError>
 const LINE_ROOM: usize = 108;
 
 /// The line of a redex.
-fn redex_text(alloc: Global, redex: &Redex) -> Result<ByteList, AllocError>
+fn redex_text(alloc: Global, redex: &Redex) -> Result<ByteList, OutOfMemory>
     requires { redex.now.count ≤ 8 }
     ensures { IfOk result (λ text. (wires : List ℕ) → text.items ≡ redex_line (seen redex.now wires)) }
 {
     let mut line = Vec::with_capacity(alloc, LINE_ROOM)?;
-    line.extend_from_slice(b"redex ")?;
-    push_number(&mut line, redex.row)?;
+    push_number(&mut line, b"redex ", u64::from(redex.row))?;
     line.extend_from_slice(b" at")?;
     push_places(&mut line, &redex.places[..redex.count as usize])?;
     line.push(b'\n')?;
@@ -70,20 +70,11 @@ fn redex_text(alloc: Global, redex: &Redex) -> Result<ByteList, AllocError>
 }
 
 /// Appends the places, a space before each.
-fn push_places(line: &mut Vec<u8>, places: &[u32]) -> Result<(), AllocError>
+fn push_places(line: &mut Vec<u8>, places: &[u32]) -> Result<(), OutOfMemory>
     ensures { OnOk result (line.new.items ≡ line.old.items ++ flat_map spaced places.now) }
 {
     for place in places {
-        line.push(b' ')?;
-        push_number(line, *place)?;
+        push_number(line, b" ", u64::from(*place))?;
     }
     Ok(())
-}
-
-/// Appends a number in decimal.
-fn push_number(line: &mut Vec<u8>, number: u32) -> Result<(), AllocError>
-    ensures { OnOk result (line.new.items ≡ line.old.items ++ decimal number) }
-{
-    let mut buffer = Buffer::new();
-    line.extend_from_slice(buffer.format(number).as_bytes())
 }

@@ -20,9 +20,10 @@ mod optimise;
 mod tests;
 
 use crate::answer::{Answer, work};
-pub use crate::laws::commands_have_one_output;
+pub use crate::laws::{commands_have_one_output, workers_change_no_output};
 use crate::notes::note;
 use pq_command::UsageFault;
+pub use pq_generate::generate;
 use pq_io::{Sink, Source};
 use std::alloc::Global;
 use std::thread::Threads;
@@ -37,6 +38,7 @@ use std::thread::Threads;
 ///
 /// The status is 0 where the command was done, 1 where `check` found a redex, 2 where the words have a fault, 3
 /// where the text is refused, 4 where the source failed, 5 where the sink failed, and 6 where memory ran out.
+#[tactic(auto, using(crate::proofs::Statuses::refused))]
 pub fn run_popqc<R: Threads + Sync, S: Source, K: Sink, N: Sink>(
     _rt: &R,
     alloc: Global,

@@ -9,6 +9,7 @@ use crate::answer::{Answer, Refusal};
 use itoa::Buffer;
 use pq_command::{Switch, UsageFault};
 use pq_io::{Sink, WriteFault, write_whole};
+use pq_limits::MAX_INPUT;
 
 /// A piece of a line: a text, or a number in decimal.
 #[derive(Clone, Copy)]
@@ -57,7 +58,11 @@ fn note_refusal<N: Sink>(notes: &mut N, refusal: Refusal)
         Refusal::TooLong => {
             put(
                 notes,
-                &[Piece::Text(b"popqc: refused: more than 67108864 bytes\n")],
+                &[
+                    Piece::Text(b"popqc: refused: more than "),
+                    Piece::Number(MAX_INPUT),
+                    Piece::Text(b" bytes\n"),
+                ],
             );
         },
     }

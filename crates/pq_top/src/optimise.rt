@@ -1,22 +1,24 @@
 ghost use Rattle.std.specs.Prelude.{◌≡◌, false, ◌+◌, ◌-◌, ◌*◌, ◌≤◌, length, IfOk, IfErr};
+ghost use Rattle.pq_limits.specs.Limits.{AreQubits, IsOmega};
 ghost use Rattle.pq_loop.specs.Gaps.{first_fingers};
 ghost use Rattle.pq_loop.specs.Opt.{Local};
 ghost use Rattle.pq_loop.specs.Counted.{IsEndOf};
 ghost use Rattle.pq_read.specs.Reads.{IsRefusedFor};
 ghost use Rattle.pq_rules.specs.Table.{builtin_rows};
-ghost use Rattle.pq_top.specs.Outputs.{input_limit, KeepsMatrix, IsOptText, IsBenchText};
+ghost use Rattle.pq_top.specs.Outputs.{KeepsMatrix, IsOptText, IsBenchText};
 ghost use Rattle.pq_generate.specs.Generated.{generated};
 ghost use Rattle.pq_text.specs.Print.{print};
 
 use crate::answer::Output;
 use pq_gate::Gate;
 use pq_generate::generate;
-use pq_io::ByteList;
+use pq_io::{ByteList, OutOfMemory};
+use pq_limits::{MAX_GATES, MAX_INPUT};
 use pq_loop::{Finished, Loop};
 use pq_read::{Options, Program, ReadError, read_text};
 use pq_rules::Rules;
-use pq_write::{Report, write_program, write_report, write_with_report};
-use std::alloc::{AllocError, Global};
+use pq_write::{ReportNumbers, write_program, write_report, write_with_report};
+use std::alloc::Global;
 
 /// The canonical text of the program that a text stands for, with the gates that rounds leave of its own, and
 /// then the report. Omega is 2 to 1,024.
@@ -27,9 +29,8 @@ pub fn optimised(
     options: Options,
     omega: u32,
 ) -> Result<Output, ReadError>
-    requires within { length text.items ≤ input_limit }
-    requires least { 2 ≤ omega }
-    requires most { omega ≤ 1024 }
+    requires within { length text.items ≤ MAX_INPUT }
+    requires omega { IsOmega omega }
     ensures found { IfOk result (λ output. IsOptText omega options text.items output.text.items × (output.found ≡ false)) }
     ensures refused { IfErr result (IsRefusedFor text.items options) }
 {
@@ -47,7 +48,7 @@ pub fn optimised(
 }
 
 /// The report on what rounds left of so many gates.
-fn report_on(gates_in: u64, finished: &Finished) -> Report
+fn report_on(gates_in: u64, finished: &Finished) -> ReportNumbers
     ensures { result ≡ record {
       gates_in = gates_in;
       gates_out = length finished.now.gates.items;
@@ -57,7 +58,7 @@ fn report_on(gates_in: u64, finished: &Finished) -> Report
       phase = finished.now.phase;
     } }
 {
-    Report {
+    ReportNumbers {
         gates_in,
         gates_out: finished.gates.as_slice().len() as u64,
         rounds: finished.rounds,
@@ -73,10 +74,9 @@ pub fn generated_text(
     seed: u64,
     qubits: u32,
     gates: u32,
-) -> Result<ByteList, AllocError>
-    requires some { 1 ≤ qubits }
-    requires few_qubits { qubits ≤ 4096 }
-    requires few_gates { gates ≤ 1048576 }
+) -> Result<ByteList, OutOfMemory>
+    requires qubits { AreQubits qubits }
+    requires gates { gates ≤ MAX_GATES }
     ensures { IfOk result (λ text. text.items ≡ print (generated seed qubits gates)) }
 {
     let program = generate(alloc, seed, qubits, gates)?;
@@ -90,12 +90,10 @@ pub fn benched(
     seed: u64,
     qubits: u32,
     gates: u32,
-) -> Result<ByteList, AllocError>
-    requires least { 2 ≤ omega }
-    requires most { omega ≤ 1024 }
-    requires some { 1 ≤ qubits }
-    requires few_qubits { qubits ≤ 4096 }
-    requires few_gates { gates ≤ 1048576 }
+) -> Result<ByteList, OutOfMemory>
+    requires omega { IsOmega omega }
+    requires qubits { AreQubits qubits }
+    requires gates { gates ≤ MAX_GATES }
     ensures { IfOk result (λ text. IsBenchText omega seed qubits gates text.items) }
 {
     let program = generate(alloc, seed, qubits, gates)?;
@@ -106,10 +104,9 @@ pub fn benched(
 }
 
 // Makes rounds under the built-in rules, from the first fingers until there is no finger.
-fn run_rounds(alloc: Global, gates: &[Gate], omega: u32) -> Result<Finished, AllocError>
-    requires least { 2 ≤ omega }
-    requires most { omega ≤ 1024 }
-    requires few { length gates.now ≤ 1048576 }
+fn run_rounds(alloc: Global, gates: &[Gate], omega: u32) -> Result<Finished, OutOfMemory>
+    requires omega { IsOmega omega }
+    requires few { length gates.now ≤ MAX_GATES }
     ensures opt { IfOk result (λ finished. IsEndOf builtin_rows omega gates.now finished) }
     ensures same { IfOk result (λ finished. KeepsMatrix gates.now finished.gates.items finished.phase) }
     ensures local { IfOk result (λ finished. Local builtin_rows omega finished.gates.items) }

@@ -3,26 +3,26 @@ use Rattle.pq_loop.proofs.Assembling.{found_of, cuts_in_order, settled_inside, r
 use Rattle.pq_loop.proofs.one_round.work_round.Goals as goal
 
 pub settle-requires : goal.settle-requires
-settle-requires c =
-    cuts_in_order c.in_ok-segments.ensures.omega (omega (arith, c.requires.least))
+settle-requires g c =
+    cuts_in_order c.in_ok-segments.ensures.omega (omega (arith, c.requires.omega.least))
     (found_of c.requires.stand c.places-places.ensures.rising c.in_ok-segments.ensures.segments c.in_ok-segments.ensures.fingers
     c.as_slice-results.ensures c.in_ok-worked.ensures c.as_slice.ensures.value c.in_ok-cuts.ensures)
 
 pub step_of-step-requires : goal.step_of-step-requires
-step_of-step-requires c =
-    results_few c.in_ok-segments.ensures.omega (omega (arith, c.requires.least)) c.requires.few c.in_ok-segments.ensures.segments
+step_of-step-requires g c =
+    results_few c.in_ok-segments.ensures.omega (omega (arith, c.requires.omega.least)) c.requires.few c.in_ok-segments.ensures.segments
     c.as_slice-results.ensures c.in_ok-worked.ensures
 
 pub moved_on-requires : goal.moved_on-requires
-moved_on-requires c =
+moved_on-requires g c =
     settled_inside
     (found_of c.requires.stand c.places-places.ensures.rising c.in_ok-segments.ensures.segments c.in_ok-segments.ensures.fingers
     c.as_slice-results.ensures c.in_ok-worked.ensures c.as_slice.ensures.value c.in_ok-cuts.ensures)
     c.put.new.array c.put.ensures.size c.in_ok-settled.ensures
 
 pub returns-clause-round : goal.returns-clause-round
-returns-clause-round c =
-    round_is c.in_ok-segments.ensures.omega (omega (arith, c.requires.least))
+returns-clause-round g c =
+    round_is c.in_ok-segments.ensures.omega (omega (arith, c.requires.omega.least))
     (found_of c.requires.stand c.places-places.ensures.rising c.in_ok-segments.ensures.segments c.in_ok-segments.ensures.fingers
     c.as_slice-results.ensures c.in_ok-worked.ensures c.as_slice.ensures.value c.in_ok-cuts.ensures)
     (record {
@@ -36,4 +36,4 @@ returns-clause-round c =
     })
 
 pub returns-clause-stand : goal.returns-clause-stand
-returns-clause-stand c = moved_stand c.in_ok-fingers.ensures
+returns-clause-stand g c = moved_stand c.in_ok-fingers.ensures

@@ -36,7 +36,7 @@ add-requires-clause-few c =
     omega (
       arith,
       c.loop-gap.invariant.jobs.count,
-      gaps_far c.args.omega c.args.gaps.now c.loop-gap.gap-index c.requires.least c.requires.apart c.loop-gap-test.true,
+      gaps_far c.args.omega c.args.gaps.now c.loop-gap.gap-index c.requires.omega.least c.requires.apart c.loop-gap-test.true,
       c.requires.inside c.loop-gap.gap-index 0 c.loop-gap-test.true,
       length-live-le c.args.array.now,
     )

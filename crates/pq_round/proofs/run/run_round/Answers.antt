@@ -1,4 +1,4 @@
-use Rattle.std.proofs.Common.{◌≡◌, ℕ, Bool, nat_lt, ap, ◌∙◌, subst}
+use Rattle.std.proofs.Common.{ℕ, Bool, nat_lt, ap, ◌∙◌, subst}
 use Rattle.pq_round.specs.Crews.{AreResultsOf}
 use Rattle.pq_round.proofs.Crewing.{results_in_order}
 use Rattle.pq_round.proofs.run.run_round.Goals as goal

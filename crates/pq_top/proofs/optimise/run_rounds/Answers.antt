@@ -20,7 +20,7 @@ rounds-preserved c =
 
 left : (c : goal.After-finish) → IfOk c.finish.result (λ finished. IsLeft c.args.omega c.args.gates.now finished)
 left c =
-    left_at_end c.finish.result c.in_ok-rules.rules c.args.omega c.args.gates.now c.rounds.looping c.requires.least c.in_ok-rules.ensures.rows
+    left_at_end c.finish.result c.in_ok-rules.rules c.args.omega c.args.gates.now c.rounds.looping c.requires.omega.least c.in_ok-rules.ensures.rows
     c.count-count.ensures.sound c.rounds.invariant (c.is_done.ensures.0 c.rounds-test.false) c.finish.ensures.gates c.finish.ensures.counts
 
 pub returns-clause-opt : goal.returns-clause-opt

@@ -1,7 +1,7 @@
-use Rattle.std.proofs.Common.{◌≡◌, ℕ, List, ◌+◌, ◌-◌, ◌<◌, ◌≤◌, length, get_or, sym, ap, ◌∙◌, subst, arith}
+use Rattle.std.proofs.Common.{◌≡◌, ℕ, List, ◌+◌, ◌-◌, length, get_or, ap, ◌∙◌, subst, arith}
 use Rattle.std.specs.Mem.Slots.{slots_items}
 use Rattle.pq_board.specs.Law.{leaves, stake, late}
-use Rattle.pq_board.specs.Steps.{AreWhole, HoldAll, early}
+use Rattle.pq_board.specs.Steps.{AreWhole, early}
 use Rattle.pq_board.specs.declared.plan.Plan.{Plan}
 use Rattle.pq_board.specs.declared.plan.View.{View}
 use Rattle.pq_board.proofs.Closing.{Closes, closes}
@@ -21,7 +21,7 @@ known c =
     let ways : AreWhole (leaves c.self.inside.plan) v.lowered = subst (λ (p : Plan). AreWhole (leaves p) v.lowered) belongs.plan c.pass.invariant.2 in
     rw c.put_words.ensures.items
     (closes c.self.inside.plan c.self.inside.table.shared.key c.pass.inside.seat.id v (slots_items c.close_with-last.result.words) (slots_items c.close_with-last.result.slots)
-    c.self.invariant.0 (all_of c) ways c.close_with-last.ensures.values.2)
+    c.self.invariant.0 belongs.plan (all_of c) ways c.close_with-last.ensures.values.2)
 
 pub overflow_sub-receipt : goal.overflow_sub-receipt
 overflow_sub-receipt c =
@@ -38,6 +38,9 @@ returns-clause-drawn c = rw (← c.pass.view_is) (known (goal.at.returns-clause-
 
 pub returns-clause-counts : goal.returns-clause-counts
 returns-clause-counts c = rw (← c.self.view_is, ← c.pass.view_is) (known (goal.at.returns-clause-counts c).After-put_words).counts
+
+pub returns-clause-tree : goal.returns-clause-tree
+returns-clause-tree c = rw (← c.self.view_is, ← c.pass.view_is) (known (goal.at.returns-clause-tree c).After-put_words).tree
 
 pub returns-clause-first : goal.returns-clause-first
 returns-clause-first c = rw (← c.pass.view_is) (known (goal.at.returns-clause-first c).After-put_words).first

@@ -1,9 +1,10 @@
-use Rattle.std.proofs.Common.{◌≡◌, ◌+◌, ◌<◌, ◌≤◌, ◌++◌, length, sym, ap, ◌∙◌, subst, arith}
+use Rattle.std.proofs.Common.{◌≡◌, ◌+◌, sym, ap, ◌∙◌, subst, arith}
 use Rattle.atomic_table.specs.Table.{Me}
-use Rattle.pq_board.specs.Law.{leaves}
-use Rattle.pq_board.specs.Steps.{BelongsTo, with_both, AreWhole}
+use Rattle.pq_board.specs.Law.{leaves, stake}
+use Rattle.pq_board.specs.Steps.{with_both, AreWhole}
 use Rattle.pq_board.specs.declared.plan.Plan.{Plan}
 use Rattle.pq_board.specs.declared.plan.View.{View}
+use Rattle.pq_board.proofs.Keeping.{joined_stake}
 use Rattle.pq_board.proofs.Allowed.{join_allowed, look_allowed, plan_words}
 use Rattle.pq_board.proofs.Whole.{whole_both}
 use Rattle.pq_board.proofs.board.Board.join.Goals as goal
@@ -47,3 +48,11 @@ invariant_of-into c =
       c.load.ensures.2.1 ∙ (ap (λ (m : Me (Unit {0}) View). m.1) c.join_seat.ensures.2 ∙ c.into.invariant.1),
       subst (λ (u : View). AreWhole (leaves u.plan) u.lowered) (sym view) (whole_both (leaves v.plan) v.lowered w.lowered c.into.invariant.2 whole),
     )
+
+pub returns-clause-staked : goal.returns-clause-staked
+returns-clause-staked c =
+    let v : View = c.into.inside.seat.me.0 in
+    let w : View = c.from.inside.seat.me.0 in
+    let view : c.load.new.seat.me.0 ≡ with_both v w = c.load.ensures.2.0 ∙ ap (λ (m : Me (Unit {0}) View). m.0) c.join_seat.ensures.2 in
+    let plan : Plan = c.self.inside.plan in
+    rw (← c.self.view_is, ← c.into.view_is, ← c.from.view_is) (ap (λ (u : View). stake plan u) view ∙ joined_stake plan v w)

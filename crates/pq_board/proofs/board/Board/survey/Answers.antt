@@ -1,6 +1,6 @@
-use Rattle.std.proofs.Common.{◌≡◌, ◌+◌, ◌<◌, ◌≤◌, length, sym, ap, ◌∙◌, arith}
+use Rattle.std.proofs.Common.{◌≡◌, sym, ◌∙◌, arith}
 use Rattle.pq_board.specs.Law.{stake}
-use Rattle.pq_board.specs.Steps.{BelongsTo, AreFirst}
+use Rattle.pq_board.specs.Steps.{AreFirst}
 use Rattle.pq_board.proofs.Allowed.{look_allowed, plan_words}
 use Rattle.pq_board.proofs.Whole.{are_first, hold_all}
 use Rattle.pq_board.proofs.board.Board.survey.Goals as goal

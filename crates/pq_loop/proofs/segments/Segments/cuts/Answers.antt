@@ -15,7 +15,7 @@ here c e =
     let inside : number < length c.args.self.now.gaps.items = omega (arith, c.requires.results, c.loop-number-test.true) in
     let gap : c.index.result.now ≡ get_or c.args.self.now.gaps.items number 0 = get_or_read c.args.self.now.gaps.items number c.index.result.now inside c.index.ensures 0 in
     let improved : c.improved.result ≡ (get_or c.args.results.now number e).answer.improved =
-    c.improved.ensures ∙
+    c.improved.ensures.improved ∙
     ap (λ (w : WorkedView). w.answer.improved) (get_or_read c.args.results.now number c.index-results-number.result c.loop-number-test.true c.index-results-number.is e) in
     rw (sym finger, sym gap, sym improved) c.cut_at.ensures
 

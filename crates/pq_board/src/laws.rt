@@ -1,0 +1,32 @@
+ghost use Rattle.std.specs.Prelude.{◌≡◌, ℕ, ◌+◌, ◌≤◌, List, [], ◌∷◌, length, slice_index};
+ghost use Rattle.std.specs.List.{concat};
+ghost use Rattle.pq_limits.specs.declared.TheConstants.{MAX_WORKERS};
+ghost use Rattle.pq_array.specs.Counts.{Counts};
+ghost use Rattle.pq_board.specs.Ways.{live_leaves};
+ghost use Rattle.pq_board.specs.Law.{IsPlan, Lawful};
+ghost use Rattle.pq_board.specs.Steps.{unused, places_under};
+ghost use Rattle.pq_board.specs.Kinds.{Step};
+ghost use Rattle.pq_board.specs.declared.plan.Plan.{Plan};
+ghost use Rattle.pq_board.specs.declared.plan.View.{View};
+
+/// The law of a board: it holds at the opening, and each kind of step keeps it, so it holds between any two
+/// steps of any passes. Then each word of the tree lies between its opening value and that value less the
+/// places of the jobs below its node, and no step lowers a word that is 0. Word 0 is at most the number of
+/// jobs and of passes.
+pub fn board_law()
+    ensures opened { (plan : Plan) → IsPlan plan → slice_index plan.words.items 0 ≡ 0 →
+        Lawful plan plan.words.items (unused plan plan.passes ∷ []) }
+    ensures kept { (plan : Plan) (words after : List ℕ) (views views_after : List View) →
+        Lawful plan words views → Step plan words views after views_after → Lawful plan after views_after }
+    ensures most { (plan : Plan) (words : List ℕ) (views : List View) → Lawful plan words views →
+        (node : ℕ) → 1 ≤ node → slice_index words node ≤ slice_index plan.words.items node }
+    ensures least { (plan : Plan) (words : List ℕ) (views : List View) → Lawful plan words views →
+        (node : ℕ) → 1 ≤ node → slice_index plan.words.items node ≤ slice_index words node + places_under plan node (concat plan.jobs) }
+    ensures few { (plan : Plan) (words : List ℕ) (views : List View) → Lawful plan words views →
+        slice_index words 0 ≤ length plan.jobs + MAX_WORKERS }
+{}
+
+/// What words count is what their live leaves are.
+pub fn leaves_law()
+    ensures { (words live : List ℕ) → Counts words live → live_leaves words ≡ live }
+{}
