@@ -279,11 +279,11 @@ module _ (gates : List Gate) (gate : Gate) where
           neither false same = apart not_first (sym same ∙ ap (λ (b : ℕ). wire_of false gate % b) (sym are))
 
       pub linked_more : (room : ℕ) → AreLinked (gates ++ gate ∷ []) (record {
-            next = led ++ (record { first = far; second = far }) ∷ [];
-            before = links.before ++ before ∷ [];
-            heads = set (set links.heads (wire_of false gate % buckets) (length gates)) (wire_of true gate % buckets) (length gates);
-            room = room;
-          })
+        next = led ++ (record { first = far; second = far }) ∷ [];
+        before = links.before ++ before ∷ [];
+        heads = set (set links.heads (wire_of false gate % buckets) (length gates)) (wire_of true gate % buckets) (length gates);
+        room = room;
+      })
       linked_more room = record {
         nexts = length-append led ((record { first = far; second = far }) ∷ []) ∙ (let l : length led ≡ length gates = nexts in let m : length (gates ++ gate ∷ []) ≡ length gates + 1 = long in let e : length led + 1 ≡ length (gates ++ gate ∷ []) = omega arith in e);
         befores = length-append links.before (before ∷ []) ∙ (let l : length links.before ≡ length gates = linked.befores in let m : length (gates ++ gate ∷ []) ≡ length gates + 1 = long in let e : length links.before + 1 ≡ length (gates ++ gate ∷ []) = omega arith in e);

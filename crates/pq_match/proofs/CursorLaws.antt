@@ -106,7 +106,7 @@ cursors_led {gates} {pattern} {places} {count} {place} {old} {new} are led fits 
         let wires : wire_of one (gate_at gates (get_or places s 0)) ≡ wire_of other (gate_at gates place) = (alike s below one other).1 same in (
           ap (λ (v : ℕ). get_or new.wires v 0) same ∙ (led.leads other own ∙ sym wires),
           subst (λ (v : ℕ). IsNextOn gates (wire_of one (gate_at gates (get_or places s 0))) (place + 1) (get_or new.next v 0)) (sym same)
-          (subst (λ (w : ℕ). IsNextOn gates w (place + 1) (get_or new.next (wire_of other (gate_at pattern count)) 0)) (sym wires) (led.next other own)),
+              (subst (λ (w : ℕ). IsNextOn gates w (place + 1) (get_or new.next (wire_of other (gate_at pattern count)) 0)) (sym wires) (led.next other own)),
         )
 
     apart : {a b : ℕ} → (a < b) ⊎ (b < a) → a ≢ b
@@ -132,7 +132,7 @@ cursors_led {gates} {pattern} {places} {count} {place} {old} {new} are led fits 
         let there : get_or (set places count place) s 0 ≡ place = ap (λ (k : ℕ). get_or (set places count place) k 0) same ∙ here in (
           ap (λ (k : ℕ). get_or new.wires (wire_of one (gate_at pattern k)) 0) same ∙ (led.leads one own ∙ ap (λ (p : ℕ). wire_of one (gate_at gates p)) (sym there)),
           subst (λ (p : ℕ). IsNextOn gates (wire_of one (gate_at gates p)) (place + 1) (get_or new.next (wire_of one (gate_at pattern s)) 0)) (sym there)
-          (subst (λ (k : ℕ). IsNextOn gates (wire_of one (gate_at gates place)) (place + 1) (get_or new.next (wire_of one (gate_at pattern k)) 0)) (sym same) (led.next one own)),
+              (subst (λ (k : ℕ). IsNextOn gates (wire_of one (gate_at gates place)) (place + 1) (get_or new.next (wire_of one (gate_at pattern k)) 0)) (sym same) (led.next one own)),
         )
     at s one below (inr (inl less)) =
         let both = old_wire s one less (cases_order (wire_of one (gate_at pattern s)) (wire_of false (gate_at pattern count))) (cases_order (wire_of one (gate_at pattern s)) (wire_of true (gate_at pattern count))) in (

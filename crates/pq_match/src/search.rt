@@ -289,7 +289,12 @@ fn may_use(gate: Gate, used: &[bool; 64]) -> bool
 }
 
 // whether the gate at the last of the places fits to the pattern, and to the gates before it
-pub(crate) fn fits(gates: &[Gate], pattern: &[Gate], places: &[u32; MAX_ROW_GATES], last: usize) -> bool
+pub(crate) fn fits(
+    gates: &[Gate],
+    pattern: &[Gate],
+    places: &[u32; MAX_ROW_GATES],
+    last: usize,
+) -> bool
     requires next { last < length pattern.now }
     requires short { length pattern.now ≤ MAX_ROW_GATES }
     requires inside { (s : ℕ) → s ≤ last → slice_index places.now s < length gates.now }
@@ -308,7 +313,12 @@ pub(crate) fn fits(gates: &[Gate], pattern: &[Gate], places: &[u32; MAX_ROW_GATE
 }
 
 // whether the gate at the place commutes with all the chosen gates
-pub(crate) fn is_passable(gates: &[Gate], places: &[u32; MAX_ROW_GATES], count: usize, place: u32) -> bool
+pub(crate) fn is_passable(
+    gates: &[Gate],
+    places: &[u32; MAX_ROW_GATES],
+    count: usize,
+    place: u32,
+) -> bool
     requires few { count ≤ MAX_ROW_GATES }
     requires place { place < length gates.now }
     requires inside { (s : ℕ) → s < count → slice_index places.now s < length gates.now }

@@ -16,7 +16,13 @@ use pq_links::Links;
 use pq_rules::Rules;
 
 /// The first redex whose first place is the start, and how far the search looked.
-pub fn seek_from(gates: &[Gate], links: &Links, rules: &Rules, start: u32, reach: &mut u32) -> Option<Redex>
+pub fn seek_from(
+    gates: &[Gate],
+    links: &Links,
+    rules: &Rules,
+    start: u32,
+    reach: &mut u32,
+) -> Option<Redex>
     requires linked { AreLinked gates.now links.now }
     requires few { length gates.now ≤ MAX_SEGMENT }
     requires start { start < length gates.now }
@@ -33,7 +39,14 @@ pub fn seek_from(gates: &[Gate], links: &Links, rules: &Rules, start: u32, reach
 }
 
 // the first of these redexes that are of this row
-fn seek_row(gates: &[Gate], links: &Links, rules: &Rules, number: u32, start: u32, reach: &mut u32) -> Option<Redex>
+fn seek_row(
+    gates: &[Gate],
+    links: &Links,
+    rules: &Rules,
+    number: u32,
+    start: u32,
+    reach: &mut u32,
+) -> Option<Redex>
     requires linked { AreLinked gates.now links.now }
     requires few { length gates.now ≤ MAX_SEGMENT }
     requires start { start < length gates.now }
@@ -160,7 +173,9 @@ fn seek(
     let mut place = next_place(gates, &moved, free, pattern[count], places[count - 1] + 1);
     *reach = (*reach).max(place + 1);
     'walk: while (place as usize) < gates.len() {
-        if let Some(found) = choose_by_kind(gates, links, pattern, places, count, &moved, place, reach) {
+        if let Some(found) = choose_by_kind(
+            gates, links, pattern, places, count, &moved, place, reach,
+        ) {
             return Some(found);
         }
         if !is_passable(gates, places, count, place) {

@@ -81,10 +81,16 @@ impl Seg {
         if index < self.tried.len() && self.tried[index] > 0 {
             return None;
         }
-        let mut reach = start + 1;
-        let found = seek_from(self.gates.as_slice(), &self.links, rules, start, &mut reach);
+        let mut looked = start + 1;
+        let found = seek_from(
+            self.gates.as_slice(),
+            &self.links,
+            rules,
+            start,
+            &mut looked,
+        );
         if found.is_none() {
-            note_tried(&mut self.tried, index, reach);
+            note_tried(&mut self.tried, index, looked);
         }
         found
     }

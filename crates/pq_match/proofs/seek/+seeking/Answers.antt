@@ -27,13 +27,38 @@ choose-seek-requires t c =
     let moved = cursors_moved c.requires.on_wires c.requires.next c.requires.cursors c.requires.ahead c.requires.place c.move_on.ensures in
     let ahead : AreAhead (c.args.place + 1) c.lead_to.new.cursors = c.lead_to.ensures.ahead (moved_ahead c.move_on.ensures c.requires.ahead) in (
       search rules,
-      (c.requires.linked, (c.requires.few, (c.requires.short, (c.requires.on_wires, (omega arith, (omega arith, (
-        grown_more c.requires.grown c.requires.eight room c.requires.behind c.requires.place fits, (
-          eight_more c.args.place c.requires.eight room, (
-            subst (λ (p : ℕ). AreCursors c.args.gates.now c.args.pattern.now (set c.args.places.now c.args.count c.args.place) (c.args.count + 1) (p + 1) c.lead_to.new.cursors) (sym last)
-            (cursors_led moved c.lead_to.ensures.led fits c.requires.eight room), (
-              subst (λ (p : ℕ). AreAhead (p + 1) c.lead_to.new.cursors) (sym last) ahead,
-              subst (λ (p : ℕ). p < c.args.reach.now) (sym last) c.requires.reach)))))))))),
+      (
+        c.requires.linked,
+        (
+          c.requires.few,
+          (
+            c.requires.short,
+            (
+              c.requires.on_wires,
+              (
+                omega arith,
+                (
+                  omega arith,
+                  (
+                    grown_more c.requires.grown c.requires.eight room c.requires.behind c.requires.place fits,
+                    (
+                      eight_more c.args.place c.requires.eight room,
+                      (
+                        subst (λ (p : ℕ). AreCursors c.args.gates.now c.args.pattern.now (set c.args.places.now c.args.count c.args.place) (c.args.count + 1) (p + 1) c.lead_to.new.cursors) (sym last)
+                            (cursors_led moved c.lead_to.ensures.led fits c.requires.eight room),
+                        (
+                          subst (λ (p : ℕ). AreAhead (p + 1) c.lead_to.new.cursors) (sym last) ahead,
+                          subst (λ (p : ℕ). p < c.args.reach.now) (sym last) c.requires.reach,
+                        ),
+                      ),
+                    ),
+                  ),
+                ),
+              ),
+            ),
+          ),
+        ),
+      ),
     )
 
 pub choose_by_kind-returns-then-not-are_of_one_kind-clause-finds : goal.choose_by_kind-returns-then-not-are_of_one_kind-clause-finds
@@ -60,8 +85,28 @@ seek-walk-init t c =
 pub seek-choose_by_kind-requires : goal.seek-choose_by_kind-requires
 seek-choose_by_kind-requires t c = (
   search rules,
-  (c.requires.linked, (c.requires.few, (c.requires.short, (c.requires.on_wires, (c.requires.next, (omega arith, (c.requires.grown,
-  ((walked_here c.walk.invariant.walked).next, (c.requires.eight, (c.walk.invariant.cursors, (c.walk.invariant.ahead, c.walk.invariant.seen))))))))))),
+  (
+    c.requires.linked,
+    (
+      c.requires.few,
+      (
+        c.requires.short,
+        (
+          c.requires.on_wires,
+          (
+            c.requires.next,
+            (
+              omega arith,
+              (
+                c.requires.grown,
+                ((walked_here c.walk.invariant.walked).next, (c.requires.eight, (c.walk.invariant.cursors, (c.walk.invariant.ahead, c.walk.invariant.seen)))),
+              ),
+            ),
+          ),
+        ),
+      ),
+    ),
+  ),
 )
 
 pub seek-returns-in-Some-clause-finds : goal.seek-returns-in-Some-clause-finds
