@@ -1,10 +1,12 @@
-ghost use Rattle.std.specs.Prelude.{◌≡◌, ℕ, ◌+◌, ◌≤◌, List, [], ◌∷◌, length, slice_index};
+ghost use Rattle.std.specs.Prelude.{◌≡◌, ℕ, ◌+◌, ◌≤◌, Option, List, [], ◌∷◌, length, slice_index, Contains};
+ghost use Rattle.pq_gate.specs.declared.gate.Gate.{Gate};
+ghost use Rattle.pq_array.specs.Cells.{IsLive, live_places};
 ghost use Rattle.std.specs.List.{concat};
 ghost use Rattle.pq_limits.specs.declared.TheConstants.{MAX_WORKERS};
 ghost use Rattle.pq_array.specs.Counts.{Counts};
 ghost use Rattle.pq_board.specs.Ways.{live_leaves};
 ghost use Rattle.pq_board.specs.Law.{IsPlan, Lawful};
-ghost use Rattle.pq_board.specs.Steps.{unused, places_under};
+ghost use Rattle.pq_board.specs.Steps.{unused, places_under, without};
 ghost use Rattle.pq_board.specs.Kinds.{Step};
 ghost use Rattle.pq_board.specs.declared.plan.Plan.{Plan};
 ghost use Rattle.pq_board.specs.declared.plan.View.{View};
@@ -29,4 +31,14 @@ pub fn board_law()
 /// What words count is what their live leaves are.
 pub fn leaves_law()
     ensures { (words live : List ℕ) → Counts words live → live_leaves words ≡ live }
+{}
+
+/// Where cells became tombstones and no other cell changed whether it is live, the live places are those that
+/// were, without the ones that are gone. So the words that `close` gives are those of the tree over the cells
+/// in which the lowered places are tombstones.
+pub fn cells_law()
+    ensures { (old new : List (Option Gate)) (gone : List ℕ) → length new ≡ length old →
+        ((place : ℕ) → IsLive old place → (Contains gone place → ⊥) → IsLive new place) →
+        ((place : ℕ) → IsLive new place → IsLive old place × (Contains gone place → ⊥)) →
+        live_places new ≡ without gone (live_places old) }
 {}

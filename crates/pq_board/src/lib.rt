@@ -12,7 +12,7 @@ mod tests;
 
 pub use board::{Board, Closed, Receipt, Unopened};
 pub use jobs::Jobs;
-pub use laws::{board_law, leaves_law};
+pub use laws::{board_law, cells_law, leaves_law};
 pub use pass::Pass;
 pub use plan::{Lowering, Plan, View};
 pub use pq_limits::MAX_JOBS;
