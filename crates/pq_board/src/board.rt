@@ -219,12 +219,7 @@ impl Board {
         let last = table.close_with(seat);
         put_words(&mut words, &last);
         last.free();
-        let receipt = Receipt {
-            jobs: jobs.count(),
-            claimed: words.as_slice()[0] - u64::from(passes - rights),
-            opened,
-            closed: words.as_slice()[1],
-        };
+        let receipt = receipt_of(&jobs, &words, opened, u64::from(passes - rights));
         Closed {
             words,
             jobs,
@@ -293,6 +288,25 @@ impl Receipt {
         ensures { result ≡ self.now.closed }
     {
         self.closed
+    }
+}
+
+/// The receipt for these jobs and closing words, where the root was at this word and so many tickets are late.
+fn receipt_of(jobs: &Jobs, words: &WordList, opened: u64, late: u64) -> Receipt
+    requires long { 2 ≤ length words.now.items }
+    requires few { late ≤ slice_index words.now.items 0 }
+    ensures { result ≡ record {
+      jobs = length jobs.now;
+      claimed = slice_index words.now.items 0 - late;
+      opened = opened;
+      closed = slice_index words.now.items 1;
+    } }
+{
+    Receipt {
+        jobs: jobs.count(),
+        claimed: words.as_slice()[0] - late,
+        opened,
+        closed: words.as_slice()[1],
     }
 }
 
