@@ -4,7 +4,7 @@ use Rattle.std.specs.Prelude.{Option}
 use Rattle.std.proofs.lemmas.Bool.{cases_order}
 use Rattle.pq_gate.specs.declared.gate.Gate.{Gate}
 use Rattle.pq_gate.specs.Kind.{kind_of, number_of}
-use Rattle.pq_rules.specs.Kinds.{numbers_starting, row_numbered}
+use Rattle.pq_rules.specs.Kinds.{begins, numbers_starting, row_numbered}
 use Rattle.pq_rules.specs.Row.{RowView, IsSound}
 use Rattle.pq_match.specs.declared.redex.Redex.{Redex}
 use Rattle.pq_match.specs.Redex.{RedexView, IsRedex, gate_at, last_place}
@@ -71,7 +71,7 @@ pub starting_candidates : (rules : List RowView) (gates : List Gate) (start reac
 starting_candidates rules gates start reach numbers seen are = record {
   rise = λ i j less below.
       subst (λ (ns : List ℕ). (i j : ℕ) → i < j → j < length ns → get_or ns i 0 < get_or ns j 0) (sym are)
-      (λ i j less below. numbers_rise (number_of (kind_of (gate_at gates start))) 1 rules i j 0 less below) i j less below;
+      (λ i j less below. numbers_rise (λ row. begins (number_of (kind_of (gate_at gates start))) row.pattern) 1 rules i j 0 less below) i j less below;
   all = λ other alike redex is at.
       subst (λ (ns : List ℕ). StandsAt ns redex.row) (sym (are ∙ ap (λ (g : Gate). numbers_starting (number_of (kind_of g)) 1 rules) (same_gate gates other reach alike start seen)))
       (row_stands rules other start 0 redex is at);
