@@ -26,6 +26,7 @@ pub mod SearchNumbers
 pub mod SearchFrom
 pub mod SearchWithin
 pub mod Roles
+pub mod Admitting
 pub mod SeekRow
 pub mod Starting
 pub mod RewritingTests
