@@ -25,6 +25,8 @@ pub mod SearchRow
 pub mod SearchNumbers
 pub mod SearchFrom
 pub mod SearchWithin
+pub mod Roles
+pub mod Admitting
 pub mod SeekRow
 pub mod Starting
 pub mod RewritingTests

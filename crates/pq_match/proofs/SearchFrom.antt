@@ -12,7 +12,7 @@ use Rattle.pq_match.specs.Found.{seen, IsFoundAmong}
 use Rattle.pq_match.specs.Search.{IsFrom, IsOfRow}
 use Rattle.pq_match.proofs.SearchGates.{kind-renamed}
 use Rattle.pq_match.proofs.RewritingWires.{places_long, chosen_at}
-use Rattle.pq_match.proofs.SearchNumbers.{begins_by_kind, numbers_rise, number_stands}
+use Rattle.pq_match.proofs.SearchNumbers.{begins_by_kind, numbers_rise, stands_where}
 use Rattle.pq_match.proofs.SearchPlaces.{StandsAt}
 
 -- none of the rows with the first of these numbers has a redex here
@@ -21,22 +21,21 @@ pub record AreTried (rules : List RowView) (gates : List Gate) (start end : ℕ)
   pub none : (k : ℕ) → k < index → (other : RedexView) → IsRedex rules gates other → ¬ IsOfRow (get_or numbers k 0) start end other
 
 module _ (rules : List RowView) (gates : List Gate) (start end : ℕ) where
-  stands_by_row : (other : RedexView) (number : ℕ) (row : RowView) → row_numbered rules number ≡ Some row → begins (number_of (kind_of (gate_at gates start))) row.pattern ≡ true →
-      StandsAt (numbers_starting (number_of (kind_of (gate_at gates start))) 1 rules) number
-  stands_by_row other zero row numbered begin = absurd (cc)
-  stands_by_row other (suc k) row numbered begin = number_stands (number_of (kind_of (gate_at gates start))) 1 rules k (suc k) row numbered begin (omega arith)
-
-  -- the row of a redex that begins here is among those whose first gate is of this gate's kind
-  pub row_stands : (other : RedexView) → IsRedex rules gates other → get_or other.places 0 0 ≡ start → StandsAt (numbers_starting (number_of (kind_of (gate_at gates start))) 1 rules) other.row
-  row_stands other is at =
+  -- the row of a redex that begins here begins with a gate of this gate's kind
+  pub begins_here : (other : RedexView) → (is : IsRedex rules gates other) → get_or other.places 0 0 ≡ start → begins (number_of (kind_of (gate_at gates start))) is.row.pattern ≡ true
+  begins_here other is at =
       let whole : length other.places ≡ length is.row.pattern = places_long gates is.row.pattern other.wires other.places is.matches.chosen in
       let places_some : 0 < length other.places = is.some in
       let some : 0 < length is.row.pattern = omega arith in
-      stands_by_row other other.row is.row is.numbered
-      (begins_by_kind (number_of (kind_of (gate_at gates start))) is.row.pattern some
+      begins_by_kind (number_of (kind_of (gate_at gates start))) is.row.pattern some
       (ap number_of (sym (kind-renamed other.wires (gate_at is.row.pattern 0)) ∙
       (ap kind_of (sym (chosen_at gates is.row.pattern other.wires other.places is.matches.chosen 0 (H 0) some)) ∙
-      ap (λ (p : ℕ). kind_of (gate_at gates p)) at))))
+      ap (λ (p : ℕ). kind_of (gate_at gates p)) at)))
+
+  -- so it is among those whose first gate is of this kind
+  pub row_stands : (other : RedexView) → IsRedex rules gates other → get_or other.places 0 0 ≡ start → StandsAt (numbers_starting (number_of (kind_of (gate_at gates start))) 1 rules) other.row
+  row_stands other is at =
+      stands_where (λ row. begins (number_of (kind_of (gate_at gates start))) row.pattern) rules other.row is.row is.numbered (begins_here other is at)
 
 -- a redex that begins here is of a row with one of the numbers
 stands_in : {rules : List RowView} {gates : List Gate} {start end : ℕ} {numbers : List ℕ} {index : ℕ} → AreTried rules gates start end numbers index →
@@ -80,7 +79,7 @@ tried_first {rules} {gates} {start} {end} {numbers} {index} {redex} tried inside
     rise : (i j : ℕ) → i < j → j < length numbers → get_or numbers i 0 < get_or numbers j 0
     rise i j less below =
         subst (λ (ns : List ℕ). (i j : ℕ) → i < j → j < length ns → get_or ns i 0 < get_or ns j 0) (sym tried.are)
-        (λ i j less below. numbers_rise (number_of (kind_of (gate_at gates start))) 1 rules i j 0 less below) i j less below
+        (λ i j less below. numbers_rise (λ row. begins (number_of (kind_of (gate_at gates start))) row.pattern) 1 rules i j 0 less below) i j less below
 
     later : (other : RedexView) → IsFrom start end other → (get_or numbers index 0 < other.row) →
         Precedes (key other) (key (seen redex first.wires)) → ⊥

@@ -4,7 +4,7 @@ use Rattle.std.proofs.lemmas.Bool.{eq-eqb}
 use Rattle.std.proofs.lemmas.List.Kept.{AllPairs-cons}
 use Rattle.pq_gate.specs.declared.gate.Gate.{Gate}
 use Rattle.pq_gate.specs.Kind.{kind_of, number_of}
-use Rattle.pq_rules.specs.Kinds.{begins, numbers_starting}
+use Rattle.pq_rules.specs.Kinds.{begins, numbers_where, row_numbered}
 use Rattle.pq_rules.specs.Row.{RowView}
 use Rattle.pq_match.specs.Redex.{gate_at}
 use Rattle.pq_match.proofs.SearchPlaces.{StandsAt}
@@ -25,19 +25,19 @@ least_more true first rest all = all_cons first first rest (omega arith) (All-le
 least_more false first rest all = All-least first (first + 1) rest (omega arith) all
 
 -- no number is less than that of the first row
-numbers_least : (kind first : ℕ) (rows : List RowView) → All (λ n. first ≤ n) (numbers_starting kind first rows)
-numbers_least kind first [] = λ k d below. absurd (omega arith)
-numbers_least kind first (row ∷ rows) =
-    least_more (begins kind row.pattern) first (numbers_starting kind (first + 1) rows) (numbers_least kind (first + 1) rows)
+numbers_least : (wanted : RowView → Bool) (first : ℕ) (rows : List RowView) → All (λ n. first ≤ n) (numbers_where wanted first rows)
+numbers_least wanted first [] = λ k d below. absurd (omega arith)
+numbers_least wanted first (row ∷ rows) =
+    least_more (wanted row) first (numbers_where wanted (first + 1) rows) (numbers_least wanted (first + 1) rows)
 
 rise_more : (b : Bool) (first : ℕ) (rest : List ℕ) → All (λ n. first + 1 ≤ n) rest → AllPairs (λ i j. i < j) rest → AllPairs (λ i j. i < j) (cond b (first ∷ rest) rest)
 rise_more true first rest all rise = AllPairs-cons (λ i j. i < j) first rest (λ k d below. omega (arith, all k d below)) rise
 rise_more false first rest all rise = rise
 
-pub numbers_rise : (kind first : ℕ) (rows : List RowView) → AllPairs (λ i j. i < j) (numbers_starting kind first rows)
-numbers_rise kind first [] = λ i j d less below. absurd (omega arith)
-numbers_rise kind first (row ∷ rows) =
-    rise_more (begins kind row.pattern) first (numbers_starting kind (first + 1) rows) (numbers_least kind (first + 1) rows) (numbers_rise kind (first + 1) rows)
+pub numbers_rise : (wanted : RowView → Bool) (first : ℕ) (rows : List RowView) → AllPairs (λ i j. i < j) (numbers_where wanted first rows)
+numbers_rise wanted first [] = λ i j d less below. absurd (omega arith)
+numbers_rise wanted first (row ∷ rows) =
+    rise_more (wanted row) first (numbers_where wanted (first + 1) rows) (numbers_least wanted (first + 1) rows) (numbers_rise wanted (first + 1) rows)
 
 stands_more : (b : Bool) (first number : ℕ) (rest : List ℕ) → StandsAt rest number → StandsAt (cond b (first ∷ rest) rest) number
 stands_more true first number rest stands = record {
@@ -51,14 +51,19 @@ stands_here : (b : Bool) (first number : ℕ) (rest : List ℕ) → b ≡ true �
 stands_here true first number rest begin same = record { at = 0; below = omega arith; is = same }
 stands_here false first number rest begin same = absurd (cc)
 
--- a row that begins with a gate of the kind is listed
-pub number_stands : (kind first : ℕ) (rows : List RowView) (k number : ℕ) (row : RowView) → slice_get rows k ≡ Some row → begins kind row.pattern ≡ true →
-    first + k ≡ number → StandsAt (numbers_starting kind first rows) number
-number_stands kind first [] k number row at begin same = absurd (cc)
-number_stands kind first (r ∷ rows) zero number row at begin same =
+-- a row with the property is listed
+pub number_stands : (wanted : RowView → Bool) (first : ℕ) (rows : List RowView) (k number : ℕ) (row : RowView) → slice_get rows k ≡ Some row → wanted row ≡ true →
+    first + k ≡ number → StandsAt (numbers_where wanted first rows) number
+number_stands wanted first [] k number row at is same = absurd (cc)
+number_stands wanted first (r ∷ rows) zero number row at is same =
     let e : r ≡ row = cc in
-    stands_here (begins kind r.pattern) first number (numbers_starting kind (first + 1) rows)
-    (ap (λ (x : RowView). begins kind x.pattern) e ∙ begin) (omega arith)
-number_stands kind first (r ∷ rows) (suc k) number row at begin same =
-    stands_more (begins kind r.pattern) first number (numbers_starting kind (first + 1) rows)
-    (number_stands kind (first + 1) rows k number row at begin (omega arith))
+    stands_here (wanted r) first number (numbers_where wanted (first + 1) rows) (ap wanted e ∙ is) (omega arith)
+number_stands wanted first (r ∷ rows) (suc k) number row at is same =
+    stands_more (wanted r) first number (numbers_where wanted (first + 1) rows)
+    (number_stands wanted (first + 1) rows k number row at is (omega arith))
+
+-- the number of a row with the property is listed
+pub stands_where : (wanted : RowView → Bool) (rules : List RowView) (number : ℕ) (row : RowView) → row_numbered rules number ≡ Some row → wanted row ≡ true →
+    StandsAt (numbers_where wanted 1 rules) number
+stands_where wanted rules zero row numbered is = absurd (cc)
+stands_where wanted rules (suc k) row numbered is = number_stands wanted 1 rules k (suc k) row numbered is (omega arith)

@@ -2,7 +2,11 @@
 use Rattle.std.specs.Prelude.{◌≡◌, ◌≢◌, ℕ, ◌+◌, ◌<◌, ◌≤◌, Bool, true, false, List, length, take, slice_index, Option, Some, None}
 use Rattle.pq_gate.specs.declared.gate.Gate.{Gate}
 use Rattle.pq_gate.specs.Commuting.{Touches}
+use Rattle.pq_gate.specs.Ports.{first_wire, last_wire}
+use Rattle.pq_rules.specs.declared.seen.Seen.{Seen}
+use Rattle.pq_rules.specs.declared.seen.Seen.TheVariants as seen
 use Rattle.pq_rules.specs.Row.{RowView}
+use Rattle.pq_rules.specs.Seen.{first_role, last_role, role_on}
 use Rattle.pq_links.specs.Wires.{wire_of}
 use Rattle.pq_links.specs.Links.{IsNextOn}
 use Rattle.pq_match.specs.declared.cursors.Cursors.{Cursors}
@@ -92,3 +96,13 @@ pub record IsNoted (start reach : ℕ) (old new : List ℕ) : Type 0 where
   pub bound : (other : ℕ) → other < length new → other ≢ start → other < length old
   pub here : slice_index new start ≡ reach
   pub others : (other : ℕ) → other ≢ start → slice_index new other ≡ slice_index old other
+
+-- A gate with one wire has one role. This is not so of a CX with one wire twice, which no circuit has.
+abbrev pub IsClear : Gate → Type 0
+IsClear gate = first_wire gate ≡ last_wire gate → first_role gate ≡ last_role gate
+
+-- what is seen at a place on a wire
+abbrev pub IsSeenAt : List Gate → ℕ → ℕ → Seen → Type 0
+IsSeenAt gates wire place seen.Nothing = length gates ≤ place
+IsSeenAt gates wire place seen.Unclear = Unit {0}
+IsSeenAt gates wire place (seen.Plays own) = (own ≡ role_on wire (gate_at gates place)) × IsClear (gate_at gates place)

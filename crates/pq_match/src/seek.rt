@@ -1,19 +1,21 @@
 //! The search of one start along the wires. It says how far it looked: `reach` is more than each place that it
 //! looked at, and more than the number of gates where it came to their end.
 
-ghost use Rattle.std.specs.Prelude.{◌≡◌, ℕ, ◌+◌, ◌-◌, ◌<◌, ◌≤◌, length, slice_index, slice_set};
+ghost use Rattle.std.specs.Prelude.{◌≡◌, ℕ, ◌+◌, ◌-◌, ◌<◌, ◌≤◌, length, slice_index, slice_set, true, ◌⊎◌};
 ghost use Rattle.pq_gate.specs.Circuit.{IsCircuit};
-ghost use Rattle.pq_links.specs.Links.{AreLinked};
+ghost use Rattle.pq_gate.specs.Commuting.{Touches};
+ghost use Rattle.pq_links.specs.Links.{AreLinked, IsNextOn};
+ghost use Rattle.pq_match.specs.Redex.{gate_at};
 ghost use Rattle.pq_match.specs.Search.{IsNext, IsGrown, AreEight};
-ghost use Rattle.pq_match.specs.Seek.{AreCursors, AreAhead, SeeksFull, Seeks, StartsAt, IsRowAt};
+ghost use Rattle.pq_match.specs.Seek.{AreCursors, AreAhead, SeeksFull, Seeks, StartsAt, IsRowAt, IsClear, IsSeenAt};
 
 use crate::cursors::{Cursors, lead_to, move_on, next_place};
 use crate::redex::Redex;
 use crate::search::{are_of_one_kind, fits, is_passable, stands_apart};
-use pq_gate::Gate;
+use pq_gate::{Gate, Ports};
 use pq_limits::{MAX_ROW_GATES, MAX_SEGMENT};
-use pq_links::Links;
-use pq_rules::Rules;
+use pq_links::{FAR, Links};
+use pq_rules::{Rules, Seen, role_of};
 
 /// The first redex whose first place is the start, and how far the search looked.
 pub fn seek_from(
@@ -30,12 +32,59 @@ pub fn seek_from(
     ensures more { reach.old ≤ reach.new }
     ensures finds { Seeks (StartsAt start) rules.now gates.now reach.new result }
 {
-    for number in rules.rows_starting(gates[start as usize]) {
+    let gate = gates[start as usize];
+    let wire = gate.last_wire();
+    let near = links.next(gates, start).second;
+    let far = place_behind(gates, links, near, wire);
+    let one = see(gates, near, wire);
+    let other = see(gates, far, wire);
+    let count = gates.len() as u32;
+    *reach = (*reach).max(near.min(count) + 1).max(far.min(count) + 1);
+    for number in rules.rows_admitting(gate, one, other) {
         if let Some(redex) = seek_row(gates, links, rules, *number, start, reach) {
             return Some(redex);
         }
     }
     None
+}
+
+// the next place on the wire behind this one, or FAR where this one is past the end
+fn place_behind(gates: &[Gate], links: &Links, place: u32, wire: u32) -> u32
+    requires linked { AreLinked gates.now links.now }
+    requires uses { place < length gates.now → Touches (gate_at gates.now place) wire }
+    ensures next { (IsNextOn gates.now wire (place + 1) result) ⊎ (length gates.now ≤ place) }
+    ensures past { length gates.now ≤ place → result ≡ FAR }
+{
+    if (place as usize) < gates.len() {
+        links.next_on(gates, place, wire)
+    } else {
+        FAR
+    }
+}
+
+// what is seen at a place on a wire
+fn see(gates: &[Gate], place: u32, wire: u32) -> Seen
+    ensures { IsSeenAt gates.now wire place result }
+{
+    if (place as usize) >= gates.len() {
+        return Seen::Nothing;
+    }
+    let gate = gates[place as usize];
+    if gate.first_wire() == gate.last_wire() && !has_one_wire(gate) {
+        Seen::Unclear
+    } else {
+        Seen::Plays(role_of(gate, wire))
+    }
+}
+
+// whether the gate has one wire only; its role there is its first and its last
+fn has_one_wire(gate: Gate) -> bool
+    ensures { result ≡ true → IsClear gate }
+{
+    match gate.ports() {
+        Ports::One(_) => true,
+        Ports::Two(_, _) => false,
+    }
 }
 
 // the first of these redexes that are of this row

@@ -4,6 +4,7 @@ mod FaultLaws
 mod KindLaws
 pub mod LiftLaws
 mod PairLaws
+pub mod SeenLaws
 mod SearchLaws
 mod StateLaws
 mod TableLaws

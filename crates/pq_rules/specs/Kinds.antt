@@ -8,12 +8,15 @@ abbrev pub begins : ℕ → List Gate → Bool
 begins kind [] = false
 begins kind (gate ∷ rest) = number_of (kind_of gate) == kind
 
--- the numbers, ascending, of the rows whose first gate is of the kind of this number, where
--- the first row has the number `first`
+-- the numbers, ascending, of the rows with a property, where the first row has the number `first`
+abbrev pub numbers_where : (RowView → Bool) → ℕ → List RowView → List ℕ
+numbers_where wanted first [] = []
+numbers_where wanted first (row ∷ rows) =
+    cond (wanted row) (first ∷ numbers_where wanted (first + 1) rows) (numbers_where wanted (first + 1) rows)
+
+-- the same of the rows whose first gate is of the kind of this number
 abbrev pub numbers_starting : ℕ → ℕ → List RowView → List ℕ
-numbers_starting kind first [] = []
-numbers_starting kind first (row ∷ rows) =
-    cond (begins kind row.pattern) (first ∷ numbers_starting kind (first + 1) rows) (numbers_starting kind (first + 1) rows)
+numbers_starting kind first rows = numbers_where (λ row. begins kind row.pattern) first rows
 
 -- the row of this number, where the first row has the number 1
 abbrev pub row_numbered : List RowView → ℕ → Option RowView

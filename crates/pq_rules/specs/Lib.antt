@@ -7,6 +7,7 @@ pub mod Kinds
 pub mod Pairs
 pub mod Renaming
 pub mod Row
+pub mod Seen
 pub mod Shapes
 pub mod States
 pub mod Table

@@ -1,12 +1,15 @@
 ghost use Rattle.std.specs.Prelude.{◌≡◌, ℕ, ◌+◌, ◌<◌, ◌≤◌, ◌++◌, [], ◌∷◌, All, cond, length, map, IfOk, IfSome, slice_index_or, vec_len};
 ghost use Rattle.std.specs.Option.{option_copied};
 ghost use Rattle.pq_gate.specs.Kind.{kind_of, number_of};
-ghost use Rattle.pq_rules.specs.Kinds.{begins, numbers_starting, row_numbered};
+ghost use Rattle.pq_rules.specs.Kinds.{begins, numbers_starting, numbers_where, row_numbered};
+ghost use Rattle.pq_rules.specs.Seen.{is_admitting, entry_of};
+ghost use Rattle.pq_rules.specs.declared.seen.Seen.{Seen};
 ghost use Rattle.pq_rules.specs.Row.{RowView, IsSound};
 ghost use Rattle.pq_rules.specs.Shapes.{rule_row};
 ghost use Rattle.pq_rules.specs.Table.{builtin_rows};
 
 use crate::row::{RawRow, Row};
+use crate::seen::{Seen, is_admitted, seen_numbered};
 use crate::table::{BuiltinRule, builtin_rules};
 use pq_gate::{Gate, GateList, KINDS};
 use pq_limits::MAX_EXTRA_ROWS;
@@ -20,6 +23,9 @@ pub const BUILTIN_ROWS: usize = 52;
 /// The most rows: the built-in ones, and as many as may follow them.
 pub const MAX_ROWS: usize = BUILTIN_ROWS + MAX_EXTRA_ROWS;
 
+// how many entries the table has: for each kind, and for each two that are seen
+const ENTRIES: usize = 968;
+
 /// Sound rows, numbered from 1, with an index by the kind of their first gate. Contracts see the list
 /// of the rows.
 #[derive(Drop)]
@@ -28,6 +34,9 @@ pub struct Rules {
 
     // by the number of a kind: the numbers of the rows that start with a gate of it
     starting: Vec<Vec<u32>>,
+
+    // by a kind and what is seen next on its last wire: the numbers of the rows that may have a redex there
+    admitting: Vec<Vec<u32>>,
 }
 
 impl Model for Rules {
@@ -38,14 +47,20 @@ impl Model for Rules {
 
     ghost use Rattle.std.specs.Prelude.{◌≡◌, ◌<◌, ◌≤◌, All, slice_index_or, vec_len};
     ghost use Rattle.pq_gate.specs.declared.kind.TheConstants.{KINDS};
-    ghost use Rattle.pq_rules.specs.Kinds.{numbers_starting};
+    ghost use Rattle.pq_rules.specs.Kinds.{numbers_starting, numbers_where};
+    ghost use Rattle.pq_rules.specs.Seen.{is_admitting, entry_of};
+    ghost use Rattle.pq_rules.specs.declared.seen.Seen.{Seen};
+    ghost use Rattle.pq_rules.specs.declared.rules.TheConstants.{ENTRIES};
     ghost use Rattle.pq_rules.specs.Row.{IsSound};
     ghost use Rattle.pq_rules.specs.declared.rules.TheConstants.{MAX_ROWS};
 
     ghost view = { λ a. a.rows.items };
 
     ghost invariant = { λ a. All IsSound a.rows.items × (vec_len a.rows ≤ MAX_ROWS) × (vec_len a.starting ≡ KINDS) ×
-        ((k : ℕ) (d : _) → k < KINDS → (slice_index_or a.starting.items k d).items ≡ numbers_starting k 1 a.rows.items) };
+        ((k : ℕ) (d : _) → k < KINDS → (slice_index_or a.starting.items k d).items ≡ numbers_starting k 1 a.rows.items) ×
+        (vec_len a.admitting ≡ ENTRIES) ×
+        ((k : ℕ) (near far : Seen) (d : _) → k < KINDS →
+            (slice_index_or a.admitting.items (entry_of k near far) d).items ≡ numbers_where (is_admitting k near far) 1 a.rows.items) };
 }
 
 impl Rules {
@@ -68,6 +83,7 @@ impl Rules {
         let Rules {
             mut rows,
             starting: _,
+            admitting: _,
         } = self;
         let mut extra = extra;
         rows.append(&mut extra)?;
@@ -80,8 +96,13 @@ impl Rules {
         ensures { IfOk result (λ rules. rules ≡ rows.items) }
     {
         let starting = index_of(alloc, rows.as_slice())?;
+        let admitting = table_of(alloc, rows.as_slice())?;
         rows_are_sound(rows.as_slice());
-        Ok(Rules { rows, starting })
+        Ok(Rules {
+            rows,
+            starting,
+            admitting,
+        })
     }
 
     /// How many rows there are.
@@ -115,6 +136,19 @@ impl Rules {
         ensures { result.now ≡ numbers_starting (number_of (kind_of gate)) 1 self.now }
     {
         self.starting[gate.kind().number() as usize].as_slice()
+    }
+}
+
+impl Rules {
+    /// The numbers, ascending, of the rows whose first gate is of this gate's kind, and which may have a redex there where
+    /// these two are seen next on the gate's last wire.
+    pub fn rows_admitting(&self, gate: Gate, near: Seen, far: Seen) -> &[u32]
+        ensures numbers { result.now ≡ numbers_where (is_admitting (number_of (kind_of gate)) near far) 1 self.now }
+        ensures sound { All IsSound self.now }
+    {
+        let kind = gate.kind().number() as usize;
+        let entry = (kind * 11 + near.number() as usize) * 11 + far.number() as usize;
+        self.admitting[entry].as_slice()
     }
 }
 
@@ -178,6 +212,44 @@ fn index_of(alloc: Global, rows: &[Row]) -> Result<Vec<Vec<u32>>, OutOfMemory>
         index.push_reserved(numbers_of(alloc, rows, of_kind)?);
     }
     Ok(index)
+}
+
+// whether the row may have a redex at a gate of this kind, where these two are seen next on its last wire
+fn admits_seen(row: &Row, of_kind: u8, near: Seen, far: Seen) -> bool
+    ensures { result ≡ is_admitting of_kind near far row.now }
+{
+    starts(row, of_kind) && is_admitted(row.pattern(), near, far)
+}
+
+// the numbers of these rows
+fn numbers_admitting(alloc: Global, rows: &[Row], of_kind: u8, near: Seen, far: Seen) -> Result<Vec<u32>, OutOfMemory>
+    requires { length rows.now ≤ MAX_ROWS }
+    ensures { IfOk result (λ numbers. numbers.items ≡ numbers_where (is_admitting of_kind near far) 1 rows.now) }
+{
+    let mut numbers = Vec::new(alloc);
+    let mut number = 1;
+    for row in rows {
+        push_where(&mut numbers, number, admits_seen(row, of_kind, near, far))?;
+        number += 1;
+    }
+    Ok(numbers)
+}
+
+// the same for each kind and whatever is seen
+fn table_of(alloc: Global, rows: &[Row]) -> Result<Vec<Vec<u32>>, OutOfMemory>
+    requires { length rows.now ≤ MAX_ROWS }
+    ensures len { IfOk result (λ table. vec_len table ≡ ENTRIES) }
+    ensures numbers { IfOk result (λ table. (k : ℕ) (near far : Seen) (d : _) → k < KINDS →
+        (slice_index_or table.items (entry_of k near far) d).items ≡ numbers_where (is_admitting k near far) 1 rows.now) }
+{
+    let mut table = Vec::with_capacity(alloc, ENTRIES)?;
+    for entry in 0..ENTRIES {
+        let of_kind = (entry / 121) as u8;
+        let near = seen_numbered((entry / 11 % 11) as u8);
+        let far = seen_numbered((entry % 11) as u8);
+        table.push_reserved(numbers_admitting(alloc, rows, of_kind, near, far)?);
+    }
+    Ok(table)
 }
 
 // the rows of rules of the table

@@ -1,13 +1,27 @@
-use Rattle.std.proofs.Common.{◌≡◌, arith}
-use Rattle.pq_match.proofs.SeekRow.{starting_candidates, none_tried_alike, tried_more_alike, tried_all_alike, tried_first_alike}
+use Rattle.std.proofs.Common.{◌≡◌, ℕ, ◌+◌, ◌<◌, ◌≤◌, ◌⊎◌, inl, inr, length, subst, arith}
+use Rattle.std.proofs.lemmas.Bool.{cases_lt}
+use Rattle.pq_links.specs.Links.{IsNextOn}
+use Rattle.pq_match.specs.Seek.{IsSeenAt}
+use Rattle.pq_match.proofs.SeekRow.{admitting_candidates, none_tried_alike, tried_more_alike, tried_all_alike, tried_first_alike}
 use Rattle.pq_match.proofs.seek.seek_from.Goals as goal
 
 pub loop-number-init : goal.loop-number-init
-loop-number-init c = record {
-  seen = c.requires.reach;
-  more = omega arith;
-  tried = none_tried_alike (starting_candidates c.args.rules.now c.args.gates.now c.args.start c.args.reach.now c.rows_starting-number-items.result.now c.requires.reach c.rows_starting-number-items.ensures);
-}
+loop-number-init c =
+    let gates = c.args.gates.now in
+    let wire = c.last_wire-wire.ensures in
+    record {
+      seen = omega arith;
+      more = omega arith;
+      tried = none_tried_alike (admitting_candidates c.args.rules.now gates c.args.start c.max-2.result c.next-near.result.second c.place_behind-far.result c.see-one.result c.see-other.result
+          c.rows_admitting-number-items.result.now c.rows_admitting-number-items.ensures.sound (omega arith)
+          (elim (cases_lt c.next-near.result.second (length gates)) [ inl inside ↦ inl (omega arith) | inr past ↦ inr (omega arith) ])
+          (elim (cases_lt c.place_behind-far.result (length gates)) [ inl inside ↦ inl (omega arith) | inr past ↦ inr (omega arith) ])
+          c.next-near.ensures.second
+          (subst (λ (w : ℕ). IsNextOn gates w (c.next-near.result.second + 1) c.place_behind-far.result ⊎ (length gates ≤ c.next-near.result.second)) wire c.place_behind-far.ensures.next)
+          (subst (λ (w : ℕ). IsSeenAt gates w c.next-near.result.second c.see-one.result) wire c.see-one.ensures)
+          (subst (λ (w : ℕ). IsSeenAt gates w c.place_behind-far.result c.see-other.result) wire c.see-other.ensures)
+          c.rows_admitting-number-items.ensures.numbers);
+    }
 
 pub loop-number-preserved : goal.loop-number-preserved
 loop-number-preserved c = record {
