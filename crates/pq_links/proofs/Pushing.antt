@@ -11,7 +11,7 @@ use Rattle.pq_gate.specs.Commuting.{Touches}
 use Rattle.pq_links.specs.declared.links.Sides.{Sides}
 use Rattle.pq_links.specs.Wires.{wire_of}
 use Rattle.pq_links.specs.Places.{gate_at}
-use Rattle.pq_links.specs.Links.{side, side_at, far, IsNextOn, IsLastIn, IsLastOn, AreBefore, AreHeads, LinksView, AreLinked}
+use Rattle.pq_links.specs.Links.{side, side_at, far, IsNextOn, IsLastIn, IsLastOn, LinksView, AreLinked}
 use Rattle.pq_links.proofs.Touching.{touched, touching}
 
 -- the last gate on a wire is led on to a place

@@ -1,18 +1,16 @@
 -- A redex at a gate is of a row that admits what is seen next on the gate's last wire.
 use Rattle.std.proofs.Common.{◌≡◌, ◌≢◌, ℕ, zero, suc, ◌+◌, ◌-◌, ◌<◌, ◌≤◌, Bool, true, false, cond, ◌&&◌, ◌||◌, ◌==◌, ◌⊎◌, inl, inr, List, [], ◌∷◌, length, get_or, drop, refl, sym, ap, ◌∙◌, subst, eq-eqb, arith, length-drop}
 use Rattle.std.proofs.lemmas.Bool.{cases_order}
-use Rattle.std.proofs.lemmas.List.{get_or-drop, drop-drop}
+use Rattle.std.proofs.lemmas.List.{get_or-drop}
 use Rattle.pq_gate.specs.declared.gate.Gate.{Gate}
 use Rattle.pq_gate.specs.declared.role.Role.{Role}
 use Rattle.pq_gate.specs.Circuit.{IsCircuit}
-use Rattle.pq_gate.specs.Commuting.{Touches, Commutes}
-use Rattle.pq_gate.specs.Kind.{kind_of}
+use Rattle.pq_gate.specs.Commuting.{Touches}
 use Rattle.pq_gate.specs.Ports.{first_wire, last_wire}
 use Rattle.pq_gate.specs.Role.{role_number}
 use Rattle.pq_rules.specs.declared.seen.Seen.{Seen}
 use Rattle.pq_rules.specs.declared.seen.Seen.TheVariants as seen
 use Rattle.pq_rules.specs.Seen.{first_role, last_role, role_on, roles_on, uses, agree, may_be, may_pass, goes_on, admits_roles, admits}
-use Rattle.pq_links.specs.Wires.{wire_of}
 use Rattle.pq_links.specs.Links.{IsNextOn}
 use Rattle.pq_links.proofs.Touching.{touched, touching}
 use Rattle.pq_match.specs.Redex.{gate_at}
@@ -85,7 +83,7 @@ module _ (n : ℕ) (gates : List Gate) (p0 : Gate) (gs : List Gate) (places : Li
   same_role_at t below =
       let kind = (full.fitting t below).kind in
       let tests = tests_alike (last_wire (gate_at gates (get_or places 0 0))) (first_wire (gate_at gates (get_or places t 0))) (last_wire p0) (first_wire (gate_at (p0 ∷ gs) t))
-          (alike t below true false).0 (alike t below true false).1 in
+      (alike t below true false).0 (alike t below true false).1 in
       ap (λ (b : Bool). cond b (first_role (gate_at gates (get_or places t 0))) (last_role (gate_at gates (get_or places t 0)))) tests
       ∙ (ap (λ (r : Role). cond (first_wire (gate_at (p0 ∷ gs) t) == last_wire p0) r (last_role (gate_at gates (get_or places t 0)))) (same_first_role (gate_at gates (get_or places t 0)) (gate_at (p0 ∷ gs) t) kind)
       ∙ ap (λ (r : Role). cond (first_wire (gate_at (p0 ∷ gs) t) == last_wire p0) (first_role (gate_at (p0 ∷ gs) t)) r) (same_last_role (gate_at gates (get_or places t 0)) (gate_at (p0 ∷ gs) t) kind))

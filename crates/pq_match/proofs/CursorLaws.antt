@@ -1,5 +1,5 @@
 -- Cursors on the wires of the chosen gates.
-use Rattle.std.proofs.Common.{◌≡◌, ◌≢◌, ℕ, ◌+◌, ◌-◌, ◌<◌, ◌≤◌, Bool, true, false, List, length, get_or, set, refl, sym, ap, subst, ◌∙◌, arith, inl, inr, ◌⊎◌}
+use Rattle.std.proofs.Common.{◌≡◌, ◌≢◌, ℕ, ◌+◌, ◌-◌, ◌<◌, ◌≤◌, Bool, true, false, List, length, get_or, set, sym, ap, subst, ◌∙◌, arith, inl, inr, ◌⊎◌}
 use Rattle.std.proofs.lemmas.Bool.{cases_order}
 use Rattle.pq_gate.specs.declared.gate.Gate.{Gate}
 use Rattle.pq_gate.specs.Circuit.{IsCircuit}
@@ -12,7 +12,7 @@ use Rattle.pq_match.specs.Search.{AreApart, AreAlike, IsFitting, IsGrown, AreEig
 use Rattle.pq_match.specs.Seek.{AreCursors, AreAhead, HaveMovedOn, AreLedTo}
 use Rattle.pq_match.proofs.Growing.{put_at, put_before}
 use Rattle.pq_match.proofs.SearchGates.{wire_below, gate_on_wires}
-use Rattle.pq_match.proofs.SearchTouches.{touched, touching}
+use Rattle.pq_match.proofs.SearchTouches.{touched}
 
 -- the wires of the pattern are three
 pattern_wire : (pattern : List Gate) → IsCircuit 3 pattern → (s : ℕ) (one : Bool) → s < length pattern → wire_of one (gate_at pattern s) < 3

@@ -1,12 +1,10 @@
 -- The role that a gate plays on a wire, and what commutes with it there.
-use Rattle.std.proofs.Common.{◌≡◌, ℕ, Bool, true, false, cond, ◌&&◌, ◌||◌, ◌==◌, ◌⊎◌, inl, inr, refl, sym, ap, ◌∙◌, subst, eqb, eq-eqb}
+use Rattle.std.proofs.Common.{◌≡◌, ℕ, Bool, true, false, cond, ◌&&◌, ◌||◌, ◌==◌, ◌⊎◌, inl, inr, refl, sym, ap, ◌∙◌, subst, eq-eqb}
 use Rattle.std.proofs.lemmas.Bool.{eqb-true, ne_eqb}
-use Rattle.pq_gate.specs.declared.gate.Eighths.{Eighths}
 use Rattle.pq_gate.specs.declared.gate.Gate.{Gate}
 use Rattle.pq_gate.specs.declared.gate.Gate.TheVariants.{H, X, Phase, Cx}
 use Rattle.pq_gate.specs.declared.role.Axis.{Axis}
 use Rattle.pq_gate.specs.declared.role.Axis.TheVariants as axis
-use Rattle.pq_gate.specs.declared.role.Role.{Role}
 use Rattle.pq_gate.specs.declared.role.Role.TheVariants as role
 use Rattle.pq_gate.specs.Circuit.{IsOnWires}
 use Rattle.pq_gate.specs.Commuting.{Touches, Along, AlongZ, AlongX, Commutes}

@@ -1,16 +1,15 @@
 -- The redexes at a start, row by row, in every list that begins with the gates that were looked at.
-use Rattle.std.proofs.Common.{◌≡◌, ℕ, zero, suc, true, ◌+◌, ◌<◌, ◌≤◌, ◌⊎◌, inl, inr, List, [], ◌∷◌, length, get_or, Some, None, refl, sym, ap, subst, ◌∙◌, arith}
-use Rattle.std.specs.Prelude.{Option}
+use Rattle.std.proofs.Common.{◌≡◌, ℕ, true, ◌+◌, ◌<◌, ◌≤◌, ◌⊎◌, inl, inr, List, [], ◌∷◌, length, get_or, Some, None, refl, sym, ap, subst, ◌∙◌, arith}
 use Rattle.std.proofs.lemmas.Bool.{cases_order}
 use Rattle.pq_gate.specs.declared.gate.Gate.{Gate}
 use Rattle.pq_gate.specs.Kind.{kind_of, number_of}
 use Rattle.pq_rules.specs.Kinds.{begins, numbers_starting, row_numbered}
 use Rattle.pq_rules.specs.Row.{RowView, IsSound}
 use Rattle.pq_match.specs.declared.redex.Redex.{Redex}
-use Rattle.pq_match.specs.Redex.{RedexView, IsRedex, gate_at, last_place}
-use Rattle.pq_match.specs.First.{Precedes, key, HasNoneAmong}
+use Rattle.pq_match.specs.Redex.{RedexView, IsRedex, gate_at}
+use Rattle.pq_match.specs.First.{Precedes, key}
 use Rattle.pq_match.specs.Found.{seen, IsFoundAmong}
-use Rattle.pq_match.specs.Search.{IsOfRow, IsFirstFull}
+use Rattle.pq_match.specs.Search.{IsFirstFull}
 use Rattle.pq_match.specs.Seek.{BeginAlike, HasNoneAlike, HasNoFullAlike, StartsAt, IsRowAt}
 use Rattle.std.specs.List.{All}
 use Rattle.std.proofs.lemmas.Bool.{cases_lt}

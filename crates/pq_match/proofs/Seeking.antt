@@ -1,6 +1,5 @@
 -- What a search found out holds in every list that begins with the gates that it looked at.
-use Rattle.std.proofs.Common.{◌≡◌, ◌≢◌, ℕ, ◌+◌, ◌-◌, ◌<◌, ◌≤◌, Bool, true, false, List, length, get_or, set, take, refl, sym, ap, subst, ◌∙◌, arith, inl, inr, ◌⊎◌, length-take}
-use Rattle.std.proofs.lemmas.Bool.{cases_order}
+use Rattle.std.proofs.Common.{◌≡◌, ℕ, ◌+◌, ◌-◌, ◌<◌, ◌≤◌, Bool, true, false, List, length, get_or, set, take, refl, sym, ap, subst, ◌∙◌, arith, length-take}
 use Rattle.std.proofs.lemmas.List.{get_or-take, take-take}
 use Rattle.std.proofs.lemmas.List.{take_all}
 use Rattle.pq_gate.specs.declared.gate.Gate.{Gate}
@@ -8,10 +7,10 @@ use Rattle.pq_gate.specs.declared.gate.Gate.TheVariants.{H}
 use Rattle.pq_gate.specs.Commuting.{Commutes}
 use Rattle.pq_gate.specs.Kind.{kind_of}
 use Rattle.pq_match.specs.Redex.{gate_at}
-use Rattle.pq_match.specs.Search.{AreApart, AreAlike, IsFitting, IsPassed, IsPassable, IsGrown, AreEight, HasNoFull, IsFirstFull}
+use Rattle.pq_match.specs.Search.{AreApart, AreAlike, IsFitting, IsPassable, IsGrown, AreEight}
 use Rattle.pq_match.specs.Seek.{BeginAlike, HasNoFullAlike}
 use Rattle.pq_match.proofs.Growing.{nothing_fits, nothing_of_kind}
-use Rattle.pq_match.proofs.GrowingWalk.{IsWalked, walk_starts, walk_goes_on, walk_is_stuck, walk_ends, walk_finds}
+use Rattle.pq_match.proofs.GrowingWalk.{IsWalked, walk_starts, walk_goes_on, walk_is_stuck, walk_ends}
 use Rattle.pq_match.proofs.GrowingSkips.{walk_passes}
 
 -- what lists share that begin alike

@@ -1,15 +1,14 @@
 -- The first redex of a list, start by start; and what stays true of the starts before a rewriting.
-use Rattle.std.proofs.Common.{◌≡◌, ℕ, ◌+◌, ◌-◌, ◌<◌, ◌≤◌, ◌⊎◌, inl, inr, List, ◌++◌, length, map, get_or, take, drop, refl, sym, ap, subst, ◌∙◌, arith, append_assoc}
+use Rattle.std.proofs.Common.{◌≡◌, ℕ, ◌+◌, ◌<◌, ◌≤◌, ◌⊎◌, inl, inr, List, ◌++◌, length, map, get_or, take, drop, refl, sym, ap, subst, ◌∙◌, arith, append_assoc}
 use Rattle.std.specs.List.{AllPairs}
 use Rattle.std.proofs.lemmas.Bool.{cases_order}
 use Rattle.std.proofs.Common.{length-take}
 use Rattle.std.proofs.lemmas.List.{take-append-drop, take-append-le, take-take}
-use Rattle.std.proofs.Math.Seq.{take-length}
 use Rattle.pq_gate.specs.declared.gate.Gate.{Gate}
 use Rattle.pq_rules.specs.Renaming.{renamed}
 use Rattle.pq_rules.specs.Row.{RowView}
 use Rattle.pq_match.specs.declared.redex.Redex.{Redex}
-use Rattle.pq_match.specs.Redex.{RedexView, IsRedex, IsWithin, HasNoRedex, last_place}
+use Rattle.pq_match.specs.Redex.{RedexView, IsRedex, HasNoRedex, last_place}
 use Rattle.pq_match.specs.First.{Precedes, key, HasNoneAmong, HasNoneWithin}
 use Rattle.pq_match.specs.Found.{seen, IsFoundAmong, IsFirstFound}
 use Rattle.pq_match.specs.Rewrite.{unchosen, rewritten}

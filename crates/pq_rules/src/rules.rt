@@ -60,7 +60,7 @@ impl Model for Rules {
         ((k : ℕ) (d : _) → k < KINDS → (slice_index_or a.starting.items k d).items ≡ numbers_starting k 1 a.rows.items) ×
         (vec_len a.admitting ≡ ENTRIES) ×
         ((k : ℕ) (near far : Seen) (d : _) → k < KINDS →
-            (slice_index_or a.admitting.items (entry_of k near far) d).items ≡ numbers_where (is_admitting k near far) 1 a.rows.items) };
+        (slice_index_or a.admitting.items (entry_of k near far) d).items ≡ numbers_where (is_admitting k near far) 1 a.rows.items) };
 }
 
 impl Rules {
@@ -222,7 +222,13 @@ fn admits_seen(row: &Row, of_kind: u8, near: Seen, far: Seen) -> bool
 }
 
 // the numbers of these rows
-fn numbers_admitting(alloc: Global, rows: &[Row], of_kind: u8, near: Seen, far: Seen) -> Result<Vec<u32>, OutOfMemory>
+fn numbers_admitting(
+    alloc: Global,
+    rows: &[Row],
+    of_kind: u8,
+    near: Seen,
+    far: Seen,
+) -> Result<Vec<u32>, OutOfMemory>
     requires { length rows.now ≤ MAX_ROWS }
     ensures { IfOk result (λ numbers. numbers.items ≡ numbers_where (is_admitting of_kind near far) 1 rows.now) }
 {

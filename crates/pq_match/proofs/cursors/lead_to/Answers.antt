@@ -1,4 +1,4 @@
-use Rattle.std.proofs.Common.{◌≡◌, ◌+◌, ◌<◌, false, true, arith}
+use Rattle.std.proofs.Common.{◌+◌, ◌<◌, false, true, arith}
 use Rattle.pq_links.specs.Wires.{wire_of}
 use Rattle.pq_match.proofs.Leading.{led_to, put_ahead}
 use Rattle.pq_match.proofs.SearchGates.{wire_below}

@@ -1,4 +1,4 @@
-use Rattle.std.proofs.Common.{◌≡◌, ℕ, ◌+◌, ◌-◌, ◌<◌, ◌≤◌, get_or, set, refl, sym, subst, arith, rules}
+use Rattle.std.proofs.Common.{◌≡◌, ℕ, ◌+◌, ◌-◌, ◌<◌, get_or, set, refl, sym, subst, arith, rules}
 use Rattle.pq_match.proofs.Growing.{eight_more, grown_more, grown_is_full}
 use Rattle.pq_match.proofs.GrowingWalk.{walk_finds}
 use Rattle.pq_match.proofs.Seeking.{walked_here, alike_starts, alike_passes, alike_goes_on, alike_is_stuck, alike_ends, alike_misfits, alike_of_kind}

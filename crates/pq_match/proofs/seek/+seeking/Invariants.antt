@@ -1,4 +1,4 @@
-use Rattle.std.proofs.Common.{◌≡◌, ℕ, ◌+◌, ◌-◌, ◌*◌, ◌<◌, ◌≤◌, length}
+use Rattle.std.proofs.Common.{◌+◌, ◌-◌, ◌*◌, ◌<◌, ◌≤◌, length}
 use Rattle.pq_match.specs.Seek.{AreCursors, AreAhead}
 use Rattle.pq_match.proofs.Seeking.{IsWalkedAlike}
 use Rattle.pq_match.proofs.seek.+seeking.Given as goal

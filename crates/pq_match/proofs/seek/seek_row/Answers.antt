@@ -1,4 +1,4 @@
-use Rattle.std.proofs.Common.{◌≡◌, ℕ, List, [], ◌∷◌, refl, sym, subst}
+use Rattle.std.proofs.Common.{List, [], ◌∷◌, refl, sym, subst}
 use Rattle.pq_gate.specs.declared.gate.Gate.{Gate}
 use Rattle.pq_match.specs.Found.{IsFoundAmong}
 use Rattle.pq_match.specs.Seek.{HasNoFullAlike, IsRowAt}

@@ -1,4 +1,4 @@
-use Rattle.std.proofs.Common.{◌≡◌, ◌≤◌, length}
+use Rattle.std.proofs.Common.{◌≡◌, length}
 use Rattle.pq_match.proofs.tests.turns_between.Given as goal
 
 abbrev pub invariant-loop-number : goal.invariant-loop-number

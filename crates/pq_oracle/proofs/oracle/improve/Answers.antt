@@ -1,4 +1,4 @@
-use Rattle.std.proofs.Common.{◌≡◌, ◌∙◌, List, length, sym, subst}
+use Rattle.std.proofs.Common.{◌∙◌, List, length, sym, subst}
 use Rattle.pq_gate.specs.declared.gate.Gate.{Gate}
 use Rattle.pq_match.specs.Redex.{HasNoRedex}
 use Rattle.pq_match.specs.Found.{IsFirstFound}

@@ -1,6 +1,5 @@
-use Rattle.std.proofs.Common.{◌≡◌, ℕ, ◌<◌, List, ap, subst, sym, ◌∙◌, get_or, arith}
-use Rattle.pq_rules.specs.Kinds.{numbers_where}
-use Rattle.pq_rules.specs.Seen.{is_admitting, entry_of}
+use Rattle.std.proofs.Common.{List, ap, ◌∙◌, get_or, arith}
+use Rattle.pq_rules.specs.Seen.{entry_of}
 use Rattle.pq_rules.proofs.SeenLaws.{table_more}
 use Rattle.pq_rules.proofs.rules.table_of.Goals as goal
 

@@ -1,4 +1,4 @@
-use Rattle.std.proofs.Common.{◌≡◌, ℕ, ◌++◌, ◌∷◌, [], ap, subst, ◌∙◌, length, sym, arith, List, refl, ◌%◌, get_or, set}
+use Rattle.std.proofs.Common.{◌≡◌, ℕ, ◌++◌, ◌∷◌, [], ap, ◌∙◌, length, sym, arith, List, ◌%◌, get_or, set}
 use Rattle.pq_links.specs.declared.links.Sides.{Sides}
 use Rattle.pq_links.specs.Links.{side_at, far, LinksView}
 use Rattle.pq_links.proofs.Pushing.{pushed, all_written}
