@@ -13,7 +13,7 @@ use pq_limits::MAX_GATES;
 use pq_list::OutOfMemory;
 use pq_method::Step;
 use pq_oracle::Worked;
-use pq_round::{WorkGate, run_round};
+use pq_round::{WorkGate, run_shares as run_round};
 use pq_rules::Rules;
 use std::alloc::Global;
 use std::thread::Threads;
