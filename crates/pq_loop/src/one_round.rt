@@ -6,7 +6,7 @@ ghost use Rattle.pq_match.specs.Row.{IsSound};
 ghost use Rattle.pq_method.specs.Round.{Round};
 ghost use Rattle.pq_loop.specs.Segments.{stands, state_of, works_of, AreNumbersOf, AreMoved};
 
-use crate::segments::segments_of;
+use crate::segments::{cuts_of, segments_of};
 use pq_array::GateArray;
 use pq_finger::Fingers;
 use pq_limits::MAX_GATES;
@@ -43,6 +43,7 @@ pub fn work_round<R: Threads + Sync, G: WorkGate>(
     let _places = fingers.places();
     let _rows = rules.count();
     let segments = segments_of(alloc, array, fingers, omega)?;
+    let ends = segments.ends(alloc, array)?;
     let worked = run_round(
         rt,
         alloc,
@@ -54,7 +55,7 @@ pub fn work_round<R: Threads + Sync, G: WorkGate>(
         gate,
     )?;
     let results = worked.as_slice();
-    let cuts = segments.cuts(alloc, array, results)?;
+    let cuts = cuts_of(alloc, ends.as_slice(), results)?;
     let settled = fingers.settle(alloc, cuts.as_slice())?;
     let before = array.live();
     segments.put(array, results);
