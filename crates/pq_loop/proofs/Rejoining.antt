@@ -8,7 +8,11 @@ use Rattle.std.proofs.lemmas.Bool.{cases_lt, cases_eq}
 use Rattle.std.proofs.lemmas.Bool.Decides.{nat_tests}
 use Rattle.std.proofs.lemmas.List.{get_or-drop, get_or_default, length-drop}
 use Rattle.std.proofs.lemmas.Option.{slice_get_past}
-use Rattle.pq_array.specs.Cells.{IsLive, live_places, live_places_from, Replaces}
+use Rattle.std.proofs.lemmas.Bool.{cases_Bool}
+use Rattle.std.proofs.lemmas.List.{drop_more, drop_all}
+use Rattle.pq_gate.specs.declared.gate.Gate.{Gate}
+use Rattle.pq_oracle.specs.Outcomes.{WorkedView}
+use Rattle.pq_array.specs.Cells.{IsLiveRun, IsLive, live_places, live_places_from, Replaces}
 use Rattle.pq_array.specs.Counts.{Counts}
 use Rattle.pq_array.specs.Tree.{IsTreeOf}
 use Rattle.pq_board.specs.Sums.{times, one_if_same}
@@ -20,7 +24,7 @@ use Rattle.pq_board.proofs.Keeping.{late_below}
 use Rattle.pq_board.proofs.Whole.{early_late}
 use Rattle.pq_board.proofs.Sums.{weigh_append, times_contains, one_other}
 use Rattle.pq_board.proofs.Ways.{times_none}
-use Rattle.pq_round.specs.Results.{AreSameNumbers}
+use Rattle.pq_round.specs.Results.{given_up, all_given_up, AreSameNumbers}
 
 -- the live cells are those that were live, but for these places
 pub record LiveBut {A : Type 0} (old new : List (Option A)) (given : List ℕ) : Type 0 where
@@ -186,3 +190,46 @@ jobs_live_from cells (j ∷ js) live =
 -- all jobs were claimed
 pub early_all : (plan : Plan) (tickets : List ℕ) → AreFirst tickets → 1 ≤ late plan tickets → early plan tickets ≡ length plan.jobs
 early_all plan tickets first some = omega (arith, early_late plan tickets, first (one_if_late plan), late_below plan (length tickets), some)
+
+-- one result more is put, the last one first
+pub but_turn : {old now new : List (Option Gate)} {n : ℕ} {places : List ℕ} (jobs : List (List ℕ)) (results : List WorkedView) (worked : WorkedView) →
+    worked ≡ get_or results (n - 1) worked → 1 ≤ n → n ≤ length results → places ≡ get_or jobs (n - 1) [] → (get_or results (n - 1) worked).ticket ≡ n - 1 → IsLiveRun now places →
+    (worked.answer.improved ≡ false → new ≡ now) → (worked.answer.improved ≡ true → Replaces now new places worked.answer.gates) →
+    LiveBut old now (all_given_up jobs (drop n results)) → LiveBut old new (all_given_up jobs (drop (n - 1) results))
+but_turn {old} {now} {new} {n} {places} jobs results worked is some inside places_is ticket run same done but =
+    subst (λ (rs : List WorkedView). LiveBut old new (all_given_up jobs rs)) (sym split)
+    (but_more old now new (all_given_up jobs (drop n results)) (given_up jobs worked) but (one (cases_Bool worked.answer.improved)))
+  where
+    own : worked.ticket ≡ n - 1
+    own = ap (λ (w : WorkedView). w.ticket) is ∙ ticket
+
+    next : n - 1 + 1 ≡ n
+    next = omega (arith, some)
+
+    split : drop (n - 1) results ≡ worked ∷ drop n results
+    split = drop_more results (n - 1) worked (omega (arith, some, inside)) ∙ ap₂ (λ (w : WorkedView) (k : ℕ). w ∷ drop k results) (sym is) next
+
+    one : (worked.answer.improved ≡ true) ⊎ (worked.answer.improved ≡ false) → LiveBut now new (given_up jobs worked)
+    one (inl better) =
+        subst (LiveBut now new) (sym (ap₂ (λ (b : Bool) (l : List ℕ). cond b (drop (length worked.answer.gates) l) []) better (ap (λ (k : ℕ). get_or jobs k []) own ∙ sym places_is)))
+        (but_replaced now new places worked.answer.gates run.all_live (done better))
+    one (inr no_better) =
+        subst (λ (cells : List (Option Gate)). LiveBut now cells (given_up jobs worked)) (sym (same no_better))
+        (subst (LiveBut now now) (sym (ap (λ (b : Bool). cond b (drop (length worked.answer.gates) (get_or jobs worked.ticket [])) []) no_better)) (but_none now))
+
+-- none is put yet
+pub but_start : (cells : List (Option Gate)) (jobs : List (List ℕ)) (results : List WorkedView) → LiveBut cells cells (all_given_up jobs (drop (length results) results))
+but_start cells jobs results = subst (λ (rs : List WorkedView). LiveBut cells cells (all_given_up jobs rs)) (sym (drop_all (length results) results (omega arith))) (but_none cells)
+
+-- all are put
+pub but_end : (old new : List (Option Gate)) (jobs : List (List ℕ)) (results : List WorkedView) (n : ℕ) → n ≡ 0 → LiveBut old new (all_given_up jobs (drop n results))
+    → live_places new ≡ without (all_given_up jobs results) (live_places old)
+but_end old new jobs results n none but = places_but old new (all_given_up jobs results) (subst (λ (k : ℕ). LiveBut old new (all_given_up jobs (drop k results))) none but)
+
+-- the words that count the cells after a round are those of the tree over them
+pub tree_after : {A : Type 0} (old cells new : List (Option A)) (words closed given other : List ℕ) → IsTreeOf old words → cells ≡ old → length new ≡ length cells → length closed ≡ length words
+    → other ≡ given → live_places new ≡ without other (live_places cells) → Counts closed (without given (live_places cells)) → IsTreeOf new closed
+tree_after {A} old cells new words closed given other tree is size same numbers gone counts = record {
+  leaves = subst (λ (n : ℕ). IsNextPowerOfTwo n (length closed / 2)) (sym (size ∙ ap (λ (l : List (Option A)). length l) is)) (subst (λ (n : ℕ). IsNextPowerOfTwo (length old) (n / 2)) (sym same) tree.leaves);
+  counts = subst (Counts closed) (sym (gone ∙ ap (λ (l : List ℕ). without l (live_places cells)) numbers)) counts;
+}
