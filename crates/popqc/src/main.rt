@@ -3,6 +3,7 @@
 #![tactic(auto)]
 
 use pq_io::{ReadSource, WriteSink};
+use pq_round::OpenGate;
 use pq_top::{ArgumentFault, refuse_arguments, run_popqc};
 use std::io::ErrorKind;
 use std::process::ExitCode;
@@ -21,6 +22,7 @@ fn main(rt: HostRuntime) -> ExitCode {
                 &mut source,
                 &mut sink,
                 &mut notes,
+                &OpenGate,
             )
         }
         Err(fault) => refuse_arguments(&mut notes, fault),

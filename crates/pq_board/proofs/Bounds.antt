@@ -1,5 +1,5 @@
 -- No more is lowered than may be: at each node at most once for each place of a job.
-use Rattle.std.proofs.Common.{◌≡◌, ◌≢◌, ℕ, zero, suc, ◌+◌, ◌-◌, ◌*◌, ◌/◌, ◌^◌, ◌<◌, ◌≤◌, ◌⊎◌, inl, inr, ⊎_elim, Bool, true, false, cond, eqb, List, [], ◌∷◌, ◌++◌, map, length, get_or, refl, sym, ap, ◌∙◌, subst, arith}
+use Rattle.std.proofs.Common.{◌≡◌, ℕ, zero, suc, ◌+◌, ◌*◌, ◌^◌, ◌<◌, ◌≤◌, ⊎_elim, Bool, true, false, cond, eqb, List, [], ◌∷◌, ◌++◌, map, get_or, refl, sym, ap, subst, arith}
 use Rattle.std.specs.Prelude.{All, Contains}
 use Rattle.std.specs.List.{concat, filter, flat_map}
 use Rattle.std.specs.List.Sorted.{IsStrictlyIncreasing}
@@ -7,18 +7,17 @@ use Rattle.std.proofs.lemmas.Bool.{cases_lt, cases_eq}
 use Rattle.std.proofs.lemmas.Bool.Decides.{nat_tests}
 use Rattle.std.proofs.lemmas.List.Elements.{All-head, All-tail, All-cons, All-contains, All-weaker, Contains-append_left, Contains-append_right, Contains-get_or}
 use Rattle.std.proofs.lemmas.List.Kept.{AllPairs-from_increasing}
-use Rattle.std.proofs.lemmas.Nat.{pow_pos}
 use mathlib.Core.Option.{some, some-injective, some-ne-none}
 use lib.ListN.{get_elem?}
-use Rattle.pq_array.specs.Counts.{HalvesTo, HowMany, none, one_more, no_more, Counts}
+use Rattle.pq_array.specs.Counts.{HalvesTo, HowMany, none, one_more, no_more}
 use Rattle.pq_array.proofs.Replacing.{rising_tail}
-use Rattle.pq_board.specs.Sums.{weigh, times, below, one_if_same}
-use Rattle.pq_board.specs.Ways.{halves, way, live_leaves}
-use Rattle.pq_board.specs.Law.{IsPlan, Lawful, Stands, IsLowering, BeginsWith, leaves, job, nodes_at, lowerings_of, spent}
+use Rattle.pq_board.specs.Sums.{weigh, times, one_if_same}
+use Rattle.pq_board.specs.Ways.{way, live_leaves}
+use Rattle.pq_board.specs.Law.{IsPlan, Stands, IsLowering, leaves, job, nodes_at, lowerings_of}
 use Rattle.pq_board.specs.declared.plan.Plan.{Plan}
 use Rattle.pq_board.specs.declared.plan.Lowering.{Lowering}
 use Rattle.pq_board.specs.declared.plan.View.{View}
-use Rattle.pq_board.proofs.Sums.{one_same, one_other, weigh_append, weigh_contains, weigh_none, weigh_zero, weigh_le, weigh_lt, weigh_same, weigh_turn, below_joined}
+use Rattle.pq_board.proofs.Sums.{one_same, one_other, weigh_append, weigh_contains, weigh_none, weigh_zero, weigh_le, weigh_lt, weigh_same, weigh_turn}
 use Rattle.pq_board.proofs.Ways.{times_halves, times_none, times_on, times_off, times_front, times_next, halves_inside}
 
 -- what is found at some number stands in the list, and the other way round

@@ -1,6 +1,6 @@
 -- What the one pass that is left knows once the board is closed.
-use Rattle.std.proofs.Common.{◌≡◌, ℕ, ◌+◌, ◌<◌, ◌≤◌, List, length, get_or, refl, sym, ap, ◌∙◌, subst, arith}
-use Rattle.atomic_table.specs.Table.{State, Final, Seen}
+use Rattle.std.proofs.Common.{◌≡◌, ℕ, ◌+◌, ◌≤◌, List, length, get_or, refl, sym, ◌∙◌, subst, arith}
+use Rattle.atomic_table.specs.Table.{Final, Seen}
 use Rattle.pq_board.specs.Sums.{weigh, below}
 use Rattle.pq_board.specs.Law.{Lawful, Stands, leaves, stake, lowerings_of}
 use Rattle.pq_board.specs.Ways.{live_leaves}

@@ -1,5 +1,5 @@
 -- What the law tells a pass, and that each kind of step keeps it.
-use Rattle.std.proofs.Common.{◌≡◌, ◌≢◌, ℕ, zero, suc, ◌+◌, ◌-◌, ◌*◌, ◌/◌, ◌^◌, ◌<◌, ◌≤◌, ◌⊎◌, inl, inr, ⊎_elim, Bool, true, false, cond, eqb, ltb, List, [], ◌∷◌, ◌++◌, map, length, set, get_or, refl, sym, ap, ◌∙◌, subst, arith, length-set, get_or-set_same, get_or-set_other, append_assoc}
+use Rattle.std.proofs.Common.{◌≡◌, ◌≢◌, ℕ, zero, suc, ◌+◌, ◌-◌, ◌<◌, ◌≤◌, ◌⊎◌, inl, inr, ⊎_elim, Bool, true, false, cond, eqb, ltb, List, [], ◌∷◌, ◌++◌, map, length, set, get_or, refl, sym, ap, ◌∙◌, subst, arith, length-set, get_or-set_same, get_or-set_other, append_assoc}
 use Rattle.std.specs.Prelude.{All, Contains}
 use Rattle.std.specs.List.{concat, filter}
 use Rattle.std.proofs.lemmas.Bool.{cases_lt, cases_eq}
@@ -8,16 +8,15 @@ use Rattle.std.proofs.lemmas.List.{append-nil, get_or_past, map-append}
 use Rattle.std.proofs.lemmas.List.Elements.{All-nil, All-append, All-push, All-head, All-tail, All-weaker, Contains-append_left, Contains-append_right, filter-append}
 use mathlib.Core.Option.{some, some-injective, some-ne-none}
 use lib.ListN.{get_elem?}
-use Rattle.atomic_table.proofs.Lists.{at_set, at_snoc, set_again, set_else}
+use Rattle.atomic_table.proofs.Lists.{at_set, at_snoc, set_else}
 use Rattle.pq_board.specs.Sums.{weigh, times, below, one_if_same}
-use Rattle.pq_board.specs.Ways.{halves, way, live_leaves}
+use Rattle.pq_board.specs.Ways.{way}
 use Rattle.pq_board.specs.Law.{IsPlan, Lawful, Stands, IsLowering, BeginsWith, leaves, job, late, one_if_late, stake, nodes_at, lowerings_of, spent}
 use Rattle.pq_board.specs.Steps.{unused, without_rights, with_ticket, with_lowered, with_both, at_nodes, Looked, AreOnce}
 use Rattle.pq_board.specs.declared.plan.Plan.{Plan}
 use Rattle.pq_board.specs.declared.plan.Lowering.{Lowering}
 use Rattle.pq_board.specs.declared.plan.View.{View}
-use Rattle.pq_board.proofs.Sums.{one_same, one_other, times_contains, weigh_append, weigh_push, weigh_set, weigh_part, weigh_two, weigh_contains, weigh_none, weigh_only, weigh_le, weigh_lt, below_past, below_at_most, below_late, below_joined}
-use Rattle.pq_board.proofs.Ways.{times_halves, times_next}
+use Rattle.pq_board.proofs.Sums.{one_same, one_other, times_contains, weigh_append, weigh_push, weigh_set, weigh_part, weigh_two, weigh_contains, weigh_only, weigh_le, weigh_lt, below_past, below_at_most, below_late, below_joined}
 use Rattle.pq_board.proofs.Bounds.{places_below, lowered_le, lowered_lt, opening_counts, times_rising}
 
 -- no pass that belongs to a board is spent

@@ -1,9 +1,8 @@
 -- The closing words count the live leaves without the lowered places.
-use Rattle.std.proofs.Common.{◌≡◌, ◌≢◌, ℕ, zero, suc, ◌+◌, ◌-◌, ◌*◌, ◌/◌, ◌^◌, ◌<◌, ◌≤◌, ◌⊎◌, inl, inr, ⊎_elim, Bool, true, false, cond, eqb, List, [], ◌∷◌, ◌++◌, map, length, get_or, refl, sym, ap, ◌∙◌, subst, arith}
+use Rattle.std.proofs.Common.{◌≡◌, ◌≢◌, ℕ, zero, suc, ◌+◌, ◌*◌, ◌^◌, ◌<◌, ◌≤◌, ◌⊎◌, inl, inr, ⊎_elim, Bool, true, false, cond, eqb, List, [], ◌∷◌, map, length, get_or, refl, sym, ap, ◌∙◌, subst, arith}
 use Rattle.std.specs.Prelude.{All, Contains}
 use Rattle.std.specs.List.{concat, filter}
-use Rattle.std.specs.List.Sorted.{IsStrictlyIncreasing}
-use Rattle.std.proofs.lemmas.Bool.{cases_lt, cases_eq}
+use Rattle.std.proofs.lemmas.Bool.{cases_eq}
 use Rattle.std.proofs.lemmas.Bool.Decides.{nat_tests}
 use Rattle.std.proofs.lemmas.List.Elements.{All-contains, All-filter, All-map, All-weaker}
 use Rattle.std.proofs.lemmas.List.Kept.{IsStrictlyIncreasing-filter}
@@ -11,8 +10,8 @@ use mathlib.Core.Option.{some}
 use lib.ListN.{get_elem?}
 use Rattle.pq_array.specs.Counts.{HalvesTo, HowMany, none, one_more, no_more, Counts}
 use Rattle.pq_board.specs.Sums.{weigh, times, one_if_same}
-use Rattle.pq_board.specs.Ways.{halves, way, live_leaves}
-use Rattle.pq_board.specs.Law.{IsPlan, Stands, IsLowering, leaves, job, nodes_at}
+use Rattle.pq_board.specs.Ways.{way, live_leaves}
+use Rattle.pq_board.specs.Law.{IsPlan, Stands, IsLowering, leaves, nodes_at}
 use Rattle.pq_board.specs.Steps.{at_root, lowered_places, places_under, without}
 use Rattle.pq_board.specs.declared.plan.Plan.{Plan}
 use Rattle.pq_board.specs.declared.plan.Lowering.{Lowering}

@@ -10,5 +10,6 @@ pub mod Leaving
 pub mod Closing
 pub mod Opening
 pub mod StepLaws
+pub mod LeftCells
 pub mod Claiming
 pub mod Trials

@@ -1,5 +1,5 @@
 -- A board is opened with word 0 at 0, whatever it was.
-use Rattle.std.proofs.Common.{◌≡◌, ◌≢◌, ℕ, zero, suc, ◌+◌, ◌-◌, ◌*◌, ◌/◌, ◌^◌, ◌<◌, ◌≤◌, List, [], ◌∷◌, length, drop, set, get_or, refl, sym, ap, ◌∙◌, subst, arith, length-set, get_or-set_same, get_or-set_other}
+use Rattle.std.proofs.Common.{◌≡◌, ◌≢◌, ℕ, zero, suc, ◌+◌, ◌/◌, ◌^◌, ◌≤◌, List, [], ◌∷◌, length, drop, set, get_or, refl, sym, ap, ◌∙◌, subst, arith, length-set, get_or-set_same, get_or-set_other}
 use Rattle.std.specs.Prelude.{All, Contains}
 use Rattle.std.specs.List.{concat}
 use Rattle.std.specs.List.Sorted.{IsStrictlyIncreasing}
@@ -7,12 +7,10 @@ use Rattle.std.proofs.lemmas.Nat.{pow_pos}
 use Rattle.pq_limits.specs.declared.TheConstants.{MAX_JOBS}
 use Rattle.pq_limits.specs.Limits.{AreWorkers}
 use Rattle.pq_array.specs.Counts.{Counts, HalvesTo, HowMany}
-use Rattle.pq_list.specs.Roomed.{Roomed}
 use Rattle.pq_board.specs.Ways.{live_leaves, live_from}
 use Rattle.pq_board.specs.Law.{IsPlan, Lawful}
 use Rattle.pq_board.specs.Steps.{unused}
 use Rattle.pq_board.specs.declared.plan.Plan.{Plan}
-use Rattle.pq_board.specs.declared.plan.View.{View}
 use Rattle.pq_board.proofs.Keeping.{opens}
 
 -- word 0 is no part of what is counted

@@ -1,11 +1,11 @@
 -- The law of a board, and the live leaves of a tree.
-use Rattle.std.proofs.Common.{◌≡◌, ◌≢◌, ℕ, zero, suc, ◌+◌, ◌-◌, ◌*◌, ◌/◌, ◌^◌, ◌<◌, ◌≤◌, ◌⊎◌, inl, inr, ⊎_elim, List, [], ◌∷◌, ◌++◌, length, drop, set, get_or, refl, sym, ap, ◌∙◌, subst, arith}
+use Rattle.std.proofs.Common.{◌≡◌, ◌≢◌, ℕ, zero, suc, ◌+◌, ◌-◌, ◌*◌, ◌/◌, ◌^◌, ◌<◌, ◌≤◌, ◌⊎◌, inl, inr, ⊎_elim, List, [], ◌∷◌, ◌++◌, length, drop, set, get_or, refl, sym, ◌∙◌, subst, arith}
 use Rattle.std.specs.Prelude.{All, Contains}
 use Rattle.std.specs.List.{concat}
 use Rattle.std.specs.List.Sorted.{IsStrictlyIncreasing}
-use Rattle.std.proofs.lemmas.Bool.{cases_lt, cases_eq}
+use Rattle.std.proofs.lemmas.Bool.{cases_lt}
 use Rattle.std.proofs.lemmas.List.{get_or-drop, length-drop}
-use Rattle.std.proofs.lemmas.List.Elements.{All-head, All-tail, All-weaker, Contains-get_or}
+use Rattle.std.proofs.lemmas.List.Elements.{All-head, All-tail, Contains-get_or}
 use mathlib.Core.Option.{some}
 use lib.ListN.{get_elem?}
 use Rattle.atomic_table.proofs.Lists.{set_else}
@@ -14,8 +14,8 @@ use Rattle.pq_array.proofs.Replacing.{rising_tail}
 use Rattle.pq_array.proofs.TreeLaws.{Counts-live_leaf, Counts-other_leaf}
 use Rattle.pq_board.specs.Sums.{weigh, times}
 use Rattle.pq_board.specs.Ways.{way, live_from, live_leaves}
-use Rattle.pq_board.specs.Law.{Lawful, leaves, job, nodes_at, lowerings_of, spent}
-use Rattle.pq_board.specs.Steps.{unused, without_rights, with_ticket, with_lowered, with_both, at_nodes, places_under}
+use Rattle.pq_board.specs.Law.{Lawful, leaves, job, nodes_at, lowerings_of}
+use Rattle.pq_board.specs.Steps.{with_ticket, with_lowered, with_both, at_nodes, places_under}
 use Rattle.pq_board.specs.Kinds.{Seated, Step, split, claim, lower, join, survey}
 use Rattle.pq_board.specs.declared.plan.Plan.{Plan}
 use Rattle.pq_board.specs.declared.plan.View.{View}
@@ -150,3 +150,10 @@ leaves_counted words live counts =
 
     away : (i : ℕ) → Contains live i → Contains live (0 + i)
     away i at = let e : i ≡ 0 + i = omega arith in subst (Contains live) e at
+
+-- the word that a pass lowers next isn't 0
+pub next_room : (plan : Plan) (words : List ℕ) (views : List View) (seat : ℕ) (view : View) (ticket place node : ℕ) (rest : List ℕ) → Lawful plan words views → Seated plan views seat view → 1 ≤ node →
+    Contains view.tickets ticket → ticket < length plan.jobs → Contains (job plan ticket) place → nodes_at place view.lowered ++ node ∷ rest ≡ way (leaves plan) place → 1 ≤ get_or words node 0
+next_room plan words views seat view ticket place node rest law seated low held early there next =
+    let same : plan ≡ view.plan = sym seated.plan_is in
+    lowers_room words views seat view ticket place node rest (own plan view words views same law) seated.here low held (rw same at there) (rw same at next)

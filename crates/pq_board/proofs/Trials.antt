@@ -1,12 +1,12 @@
 -- Boards for tests: a tree whose first leaves are live, and jobs of two places each.
-use Rattle.std.proofs.Common.{◌≡◌, ◌≢◌, ℕ, zero, suc, ◌+◌, ◌-◌, ◌*◌, ◌<◌, ◌≤◌, ◌⊎◌, inl, inr, ⊎_elim, Option, Some, List, [], ◌∷◌, ◌++◌, map, length, get_or, refl, sym, ap, ◌∙◌, subst, arith, append_assoc}
+use Rattle.std.proofs.Common.{◌≡◌, ℕ, zero, suc, ◌+◌, ◌-◌, ◌*◌, ◌<◌, ◌≤◌, ◌⊎◌, inl, inr, ⊎_elim, Some, List, [], ◌∷◌, ◌++◌, map, length, get_or, refl, sym, ap, ◌∙◌, subst, arith}
 use Rattle.std.specs.Prelude.{All, Contains}
 use Rattle.std.specs.List.{concat}
 use Rattle.std.proofs.lemmas.Bool.{cases_lt}
 use Rattle.std.proofs.lemmas.List.Folds.{concat-append}
-use Rattle.std.proofs.lemmas.List.{append-nil, length_push, get_or_push, get_or_append_left}
+use Rattle.std.proofs.lemmas.List.{length_push, get_or_push, get_or_append_left}
 use Rattle.std.proofs.lemmas.List.Elements.{All-append, All-weaker, All-nil, All-push, All-contains}
-use Rattle.pq_array.specs.Cells.{live_places, live_places_from}
+use Rattle.pq_array.specs.Cells.{live_places_from}
 use Rattle.pq_board.specs.Law.{stake, leaves}
 use Rattle.pq_board.specs.Steps.{Opened, Held, BelongsTo, unused, with_lowered, whole_way, lowered_places, Claimed}
 use Rattle.pq_board.proofs.Claiming.{Drawn, claimed_some}

@@ -1,10 +1,10 @@
 -- The ways from the leaves to the root.
-use Rattle.std.proofs.Common.{◌≡◌, ◌≢◌, ℕ, zero, suc, ◌+◌, ◌-◌, ◌*◌, ◌/◌, ◌^◌, ◌<◌, ◌≤◌, ◌⊎◌, inl, inr, ⊎_elim, List, [], ◌∷◌, ◌++◌, length, get_or, refl, sym, ap, ◌∙◌, subst, arith}
-use Rattle.std.specs.Prelude.{All, Contains}
-use Rattle.std.proofs.lemmas.Bool.{cases_lt, cases_eq}
+use Rattle.std.proofs.Common.{◌≡◌, ◌≢◌, ℕ, zero, suc, ◌+◌, ◌/◌, ◌^◌, ◌≤◌, ⊎_elim, List, [], ◌∷◌, ◌++◌, refl, sym, ap, ◌∙◌, arith}
+use Rattle.std.specs.Prelude.{Contains}
+use Rattle.std.proofs.lemmas.Bool.{cases_eq}
 use Rattle.std.proofs.lemmas.Nat.{shr_le, shr-shr}
 use Rattle.pq_array.specs.Counts.{HalvesTo}
-use Rattle.pq_board.specs.Sums.{weigh, times, one_if_same}
+use Rattle.pq_board.specs.Sums.{times, one_if_same}
 use Rattle.pq_board.specs.Ways.{halves, way}
 use Rattle.pq_board.specs.Law.{BeginsWith}
 use Rattle.pq_board.proofs.Sums.{one_same, one_other, weigh_append, times_contains}

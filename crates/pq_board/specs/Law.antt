@@ -1,5 +1,5 @@
 -- The law of a board: what its words and the views of its passes say at any time.
-use Rattle.std.specs.Prelude.{◌≡◌, ℕ, ◌+◌, ◌/◌, ◌<◌, ◌≤◌, ◌⊎◌, cond, nat_eq, nat_lt, List, [], ◌∷◌, ◌++◌, map, length, slice_index, slice_index_or, All, Contains}
+use Rattle.std.specs.Prelude.{◌≡◌, ℕ, ◌+◌, ◌/◌, ◌<◌, ◌≤◌, ◌⊎◌, cond, nat_eq, nat_lt, List, [], ◌++◌, map, length, slice_index, slice_index_or, All, Contains}
 use Rattle.std.specs.List.{concat, filter}
 use Rattle.std.specs.List.Sorted.{IsStrictlyIncreasing}
 use mathlib.Core.Option.{some}
@@ -7,7 +7,7 @@ use lib.ListN.{get_elem?}
 use Rattle.pq_limits.specs.declared.TheConstants.{MAX_JOBS}
 use Rattle.pq_limits.specs.Limits.{AreWorkers}
 use Rattle.pq_array.specs.Counts.{Counts}
-use Rattle.pq_board.specs.Sums.{weigh, times, below, one_if_same}
+use Rattle.pq_board.specs.Sums.{weigh, below, one_if_same}
 use Rattle.pq_board.specs.Ways.{way, live_leaves}
 use Rattle.pq_board.specs.declared.plan.Plan.{Plan}
 use Rattle.pq_board.specs.declared.plan.Lowering.{Lowering}

@@ -4,7 +4,7 @@ use Rattle.std.specs.List.{filter}
 use Rattle.atomic_table.specs.Seated.{TableId}
 use Rattle.pq_board.specs.Sums.{weigh, times, below}
 use Rattle.pq_board.specs.Ways.{way}
-use Rattle.pq_board.specs.Law.{leaves, stake, late}
+use Rattle.pq_board.specs.Law.{leaves, stake}
 use Rattle.pq_board.specs.declared.plan.Plan.{Plan}
 use Rattle.pq_board.specs.declared.plan.Lowering.{Lowering}
 use Rattle.pq_board.specs.declared.plan.View.{View}

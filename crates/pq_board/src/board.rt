@@ -7,12 +7,11 @@ ghost use Rattle.pq_board.specs.Sums.{weigh, times};
 ghost use Rattle.pq_board.specs.Ways.{way, live_leaves};
 ghost use Rattle.pq_board.specs.Law.{IsPlan, leaves, job, nodes_at, stake, late};
 ghost use Rattle.std.specs.Mem.Slots.{slots_items, slots_len, IsFull};
-ghost use Rattle.pq_board.specs.Steps.{BelongsTo, unused, without_rights, with_lowered, with_both, whole_way, lowered_places, Claimed, HoldAll, AreOnce, AreFirst, early, places_under, without};
+ghost use Rattle.pq_board.specs.Steps.{BelongsTo, unused, without_rights, with_ticket, with_lowered, with_both, whole_way, lowered_places, Claimed, HoldAll, AreOnce, AreFirst, early, places_under, without};
 
 use crate::jobs::Jobs;
 use crate::pass::Pass;
 use crate::plan::{Plan, View};
-use crate::receipt::Receipt;
 use crate::rule::{Aim, Claims, Gives, Law, Looks, Lowers, Part, Takes};
 use atomic_table::{Seat, Table};
 use pq_array::WordList;
@@ -113,6 +112,7 @@ impl Board {
     }
 
     /// Draws a ticket, which the pass keeps. None says that the ticket has no job.
+    #[tactic(auto, using(crate::proofs::Allowed::plan_words, crate::proofs::Keeping::claimed_stake))]
     pub fn claim(&self, pass: &mut Pass) -> Option<u64>
         requires belongs { BelongsTo self.now pass.old }
         requires right { 1 ≤ pass.old.view.rights }
@@ -120,7 +120,7 @@ impl Board {
         ensures claimed { Claimed pass.old.view result pass.new.view }
         ensures staked { stake self.now.plan pass.new.view ≡ stake self.now.plan pass.old.view }
     {
-        let ticket = self.table.shared.fetch_add::<Claims>(&mut pass.seat, 0, 1);
+        let ticket = draw(&self.table, &mut pass.seat);
         if ticket < self.job_count() {
             Some(ticket)
         } else {
@@ -156,12 +156,13 @@ impl Board {
     {
         let Pass { seat, rights } = from;
         self.table.shared.join_seat::<Takes>(&mut into.seat, seat);
-        self.table.shared.load::<Looks>(&mut into.seat, 0);
+        look(&self.table, &mut into.seat);
         into.rights += rights;
     }
 
     /// Looks at the counter once: the tickets of the one pass that is left hold each number below the jobs
     /// once, where one of them is late.
+    #[tactic(auto, using(crate::proofs::Allowed::plan_words, crate::proofs::Whole::hold_all))]
     pub fn survey(&self, pass: &mut Pass)
         requires belongs { BelongsTo self.now pass.old }
         requires alone { stake self.now.plan pass.old.view ≡ self.now.plan.passes }
@@ -170,7 +171,7 @@ impl Board {
         ensures all { HoldAll self.now.plan pass.old.view.tickets }
         ensures first { AreFirst pass.old.view.tickets }
     {
-        self.table.shared.load::<Looks>(&mut pass.seat, 0);
+        look(&self.table, &mut pass.seat);
     }
 
     /// Lowers a place of the job of a ticket that the pass holds: one from each word on the way from the
@@ -221,12 +222,7 @@ impl Board {
         let last = table.close_with(seat);
         put_words(&mut words, &last);
         last.free();
-        let receipt = Receipt {
-            jobs: jobs.count(),
-            claimed: words.as_slice()[0] - u64::from(passes - rights),
-            opened,
-            closed: words.as_slice()[1],
-        };
+        let receipt = receipt_of(&jobs, &words, opened, u64::from(passes - rights));
         Closed {
             words,
             jobs,
@@ -248,6 +244,73 @@ pub struct Closed {
     pub words: WordList,
     pub jobs: Jobs,
     pub receipt: Receipt,
+}
+
+/// What the closing of a board says of it. Only `close` makes one, and it is neither copied nor cloned.
+/// Contracts see its four numbers.
+#[derive(Drop)]
+pub struct Receipt {
+    jobs: u64,
+    claimed: u64,
+    opened: u64,
+    closed: u64,
+}
+
+impl Model for Receipt {
+    ghost use Rattle.pq_board.specs.Steps.{Numbers};
+
+    ghost Value = { Numbers };
+
+    ghost view = { λ r. record { jobs = r.jobs; claimed = r.claimed; opened = r.opened; closed = r.closed } };
+}
+
+impl Receipt {
+    /// How many jobs there were.
+    pub fn jobs(&self) -> u64
+        ensures { result ≡ self.now.jobs }
+    {
+        self.jobs
+    }
+
+    /// How many tickets below the number of jobs were drawn.
+    pub fn claimed(&self) -> u64
+        ensures { result ≡ self.now.claimed }
+    {
+        self.claimed
+    }
+
+    /// The word of the root at the opening: how many leaves were live.
+    pub fn opened(&self) -> u64
+        ensures { result ≡ self.now.opened }
+    {
+        self.opened
+    }
+
+    /// The word of the root at the closing.
+    pub fn closed(&self) -> u64
+        ensures { result ≡ self.now.closed }
+    {
+        self.closed
+    }
+}
+
+/// The receipt for these jobs and closing words, where the root was at this word and so many tickets are late.
+fn receipt_of(jobs: &Jobs, words: &WordList, opened: u64, late: u64) -> Receipt
+    requires long { 2 ≤ length words.now.items }
+    requires few { late ≤ slice_index words.now.items 0 }
+    ensures { result ≡ record {
+      jobs = length jobs.now;
+      claimed = slice_index words.now.items 0 - late;
+      opened = opened;
+      closed = slice_index words.now.items 1;
+    } }
+{
+    Receipt {
+        jobs: jobs.count(),
+        claimed: words.as_slice()[0] - late,
+        opened,
+        closed: words.as_slice()[1],
+    }
 }
 
 /// Lowers the words from a leaf up to the root.
@@ -283,6 +346,35 @@ fn put_words(words: &mut WordList, last: &Last)
     for number in 0..words.as_slice().len() {
         words.put(number as u64, last.word(number));
     }
+}
+
+/// Draws the number in word 0, which becomes one more.
+fn draw(table: &Words, seat: &mut Seat<(), View>) -> u64
+    requires here { seat.old.table_id ≡ table.now.shared.table_id }
+    requires words { 0 < table.now.shared.table_id.words }
+    requires plan { table.now.shared.key ≡ seat.old.me.0.plan }
+    requires right { 1 ≤ seat.old.me.0.rights }
+    ensures here { seat.new.table_id ≡ seat.old.table_id }
+    ensures none { seat.new.me.1 ≡ seat.old.me.1 }
+    ensures drawn { seat.new.me.0 ≡ with_ticket result seat.old.me.0 }
+    ensures greatest { All (λ before. before < result) seat.old.me.0.tickets }
+{
+    table.shared.fetch_add::<Claims>(seat, 0, 1)
+}
+
+/// Looks at word 0, which tells what a pass knows then.
+fn look(table: &Words, seat: &mut Seat<(), View>)
+    requires here { seat.old.table_id ≡ table.now.shared.table_id }
+    requires words { 0 < table.now.shared.table_id.words }
+    requires plan { table.now.shared.key ≡ seat.old.me.0.plan }
+    ensures here { seat.new.table_id ≡ seat.old.table_id }
+    ensures none { seat.new.me.1 ≡ seat.old.me.1 }
+    ensures same { seat.new.me.0 ≡ seat.old.me.0 }
+    ensures few { seat.old.me.0.rights ≤ seat.old.me.0.plan.passes }
+    ensures once { AreOnce seat.old.me.0.tickets }
+    ensures first { stake seat.old.me.0.plan seat.old.me.0 ≡ seat.old.me.0.plan.passes → AreFirst seat.old.me.0.tickets }
+{
+    table.shared.load::<Looks>(seat, 0);
 }
 
 /// Cuts a seat in two, of which the new one has these rights.

@@ -1,4 +1,6 @@
 ghost use Rattle.std.specs.Prelude.{◌≡◌};
+ghost use Rattle.pq_board.specs.Law.{leaves};
+ghost use Rattle.pq_board.specs.Steps.{AreWhole};
 
 use crate::plan::View;
 use atomic_table::Seat;
@@ -24,9 +26,11 @@ impl Model for Pass {
 }
 
 impl Pass {
-    /// How many rights it has: each is good for one late ticket.
+    /// How many rights it has: each is good for one late ticket. Each place that the pass lowered was
+    /// lowered at its whole way to the root.
     pub fn rights(&self) -> u32
-        ensures { result ≡ self.now.view.rights }
+        ensures rights { result ≡ self.now.view.rights }
+        ensures whole { AreWhole (leaves self.now.view.plan) self.now.view.lowered }
     {
         self.rights
     }

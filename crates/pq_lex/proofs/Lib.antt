@@ -2,3 +2,5 @@ pub mod Plain
 pub mod Lexing
 pub mod Forms
 pub mod Added
+pub mod Direct
+pub mod Values

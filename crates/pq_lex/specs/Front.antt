@@ -87,6 +87,18 @@ abbrev pub begins_with : ℕ → List ℕ → Bool
 begins_with mark [] = false
 begins_with mark (b ∷ rest) = b == mark
 
+-- the byte of a mark that no longer mark begins with, 0 for the other forms
+abbrev pub mark_byte : Form → ℕ
+mark_byte Semicolon = 59
+mark_byte Comma = 44
+mark_byte LeftParenthesis = 40
+mark_byte RightParenthesis = 41
+mark_byte LeftBracket = 91
+mark_byte RightBracket = 93
+mark_byte LeftBrace = 123
+mark_byte RightBrace = 125
+mark_byte _ = 0
+
 abbrev pub mark_front : ℕ → List ℕ → Front
 mark_front b rest =
     if b == 59 then fronted Semicolon 1

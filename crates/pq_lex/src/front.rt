@@ -1,8 +1,15 @@
-ghost use Rattle.std.specs.Prelude.{◌≡◌, ◌+◌, ◌^◌, ◌<◌, ◌≤◌, length, IsTrue};
+ghost use Rattle.std.specs.Prelude.{◌≡◌, ◌+◌, ◌^◌, ◌<◌, ◌≤◌, length, take, min, true, IsTrue};
 ghost use Rattle.std.specs.List.{position_or_len};
-ghost use Rattle.pq_lex.specs.Front.{is_outside_word, is_no_digit, is_newline, is_unquotable, blank_length, some_digits, exponent_digits, exponent_length, fraction_length, decimal_length, number_front, quoted_front, begins_with, mark_front, front, form_and_count};
+ghost use Rattle.pq_lex.specs.Front.{is_outside_word, is_no_digit, is_newline, is_unquotable, blank_length, some_digits, exponent_digits, exponent_length, fraction_length, decimal_length, number_front, quoted_front, begins_with, mark_front, mark_byte, fronted, front, form_and_count};
+ghost use Rattle.pq_lex.specs.declared.token.Form.TheVariants.{Word, Number};
+ghost use Rattle.std.specs.List.{list_all};
+ghost use Rattle.std.specs.Char.{is_ascii_digit};
+ghost use Rattle.std.specs.Str.Parse.{digits_value};
 
 use crate::token::Form;
+
+/// What the value of an integer stops growing at.
+pub const GREAT: u32 = 1_000_000;
 
 // A byte that a word can't have.
 #[inline(always)]
@@ -176,8 +183,9 @@ fn quoted(rest: &[u8]) -> (Form, usize)
     }
 }
 
+/// Whether this byte comes next.
 #[inline(always)]
-fn is_next(mark: u8, rest: &[u8]) -> bool
+pub(crate) fn is_next(mark: u8, rest: &[u8]) -> bool
     ensures next { result ≡ begins_with mark rest.now }
     ensures some { IsTrue result → 1 ≤ length rest.now }
 {
@@ -240,6 +248,72 @@ pub(crate) fn token_front(text: &[u8]) -> (Form, usize)
             b'"' => quoted(rest),
             other => mark(other, rest),
         },
+    }
+}
+
+/// The byte of a mark that no longer mark begins with, 0 for the other forms.
+#[inline(always)]
+pub(crate) fn byte_of(mark: Form) -> u8
+    ensures { result ≡ mark_byte mark }
+{
+    match mark {
+        Form::Semicolon => b';',
+        Form::Comma => b',',
+        Form::LeftParenthesis => b'(',
+        Form::RightParenthesis => b')',
+        Form::LeftBracket => b'[',
+        Form::RightBracket => b']',
+        Form::LeftBrace => b'{',
+        Form::RightBrace => b'}',
+        _ => 0,
+    }
+}
+
+/// How many bytes the word at the front of a text has that nothing is skipped of, 0 where there is none.
+#[inline(always)]
+pub(crate) fn word_front(text: &[u8]) -> usize
+    ensures front { 1 ≤ result → fronted Word result ≡ front text.now }
+    ensures within { result ≤ length text.now }
+{
+    match text {
+        [first, rest @ ..] if first.is_ascii_alphabetic() => 1 + word_bytes(rest),
+        _ => 0,
+    }
+}
+
+// How many digits there are at the front, and their value.
+#[inline(always)]
+fn valued_digits(text: &[u8]) -> (usize, u32)
+    ensures place { result.0 ≡ position_or_len is_no_digit text.now }
+    ensures digits { list_all is_ascii_digit (take result.0 text.now) ≡ true }
+    ensures value { result.1 ≡ min (digits_value 10 (take result.0 text.now)) GREAT }
+    ensures within { result.0 ≤ length text.now }
+{
+    let mut value: u32 = 0;
+    for (i, byte) in text.iter().enumerate() {
+        if !byte.is_ascii_digit() {
+            return (i, value);
+        }
+        value = (value * 10 + u32::from(*byte - b'0')).min(GREAT);
+    }
+    (text.len(), value)
+}
+
+/// How many bytes the integer at the front of a text has that nothing is skipped of, and its value. There are
+/// none where no integer is there.
+#[inline(always)]
+pub(crate) fn integer_front(text: &[u8]) -> (usize, u32)
+    ensures front { 1 ≤ result.0 → fronted Number result.0 ≡ front text.now }
+    ensures digits { list_all is_ascii_digit (take result.0 text.now) ≡ true }
+    ensures value { result.1 ≡ min (digits_value 10 (take result.0 text.now)) GREAT }
+    ensures within { result.0 ≤ length text.now }
+{
+    let (count, value) = valued_digits(text);
+    let rest = &text[count..];
+    if fraction(rest) == 0 && exponent(rest) == 0 {
+        (count, value)
+    } else {
+        (0, 0)
     }
 }
 

@@ -1,9 +1,13 @@
-ghost use Rattle.std.specs.Prelude.{◌≡◌, true, ℕ, ◌+◌, ◌<◌, ◌≤◌, [], ◌∷◌, length, drop};
-ghost use Rattle.pq_lex.specs.Token.{seen, is_last};
-ghost use Rattle.pq_lex.specs.Front.{blank_length};
+ghost use Rattle.std.specs.Prelude.{◌≡◌, true, false, ◌==◌, ℕ, ◌+◌, ◌<◌, ◌≤◌, [], ◌∷◌, length, take, drop, min, IfSome, IfNone};
+ghost use Rattle.std.specs.List.{list_all};
+ghost use Rattle.std.specs.Char.{is_ascii_digit};
+ghost use Rattle.std.specs.Str.Parse.{digits_value};
+ghost use Rattle.pq_lex.specs.declared.token.Form.TheVariants.{Word, Number, Missing};
+ghost use Rattle.pq_lex.specs.Token.{seen, is_last, number_of};
+ghost use Rattle.pq_lex.specs.Front.{blank_length, fronted, front, mark_byte};
 ghost use Rattle.pq_lex.specs.Lex.{Position, tokens, moved, next_line, tokens_of, from_token, first_form};
 
-use crate::front::{blank_front, token_front};
+use crate::front::{GREAT, blank_front, byte_of, integer_front, is_next, token_front, word_front};
 use crate::token::{Form, Token};
 use pq_limits::MAX_INPUT;
 use std::marker::Model;
@@ -95,13 +99,16 @@ impl<'t> Lexer<'t> {
         }
     }
 
-    /// The next token. After a missing or a malformed one there is none.
+    // Goes over the token at the front, where nothing is skipped.
     #[inline(always)]
-    pub fn next(&mut self) -> Token<'t>
-        ensures { tokens self.old ≡ from_token (seen result) (tokens self.new) }
+    fn take(&mut self, form: Form, count: usize) -> Token<'t>
+        requires none { blank_length self.old.rest ≡ 0 }
+        requires front { fronted form count ≡ front self.old.rest }
+        requires within { count ≤ length self.old.rest }
+        ensures taken { tokens self.old ≡ from_token (seen result) (tokens self.new) }
+        ensures form { result.form ≡ form }
+        ensures bytes { result.bytes.now ≡ take count self.old.rest }
     {
-        self.skip_blanks();
-        let (form, count) = token_front(self.rest);
         let token = Token {
             form,
             bytes: &self.rest[..count],
@@ -110,6 +117,78 @@ impl<'t> Lexer<'t> {
         };
         self.advance(count);
         token
+    }
+
+    /// The next token. After a missing or a malformed one there is none.
+    #[inline(always)]
+    pub fn next(&mut self) -> Token<'t>
+        ensures { tokens self.old ≡ from_token (seen result) (tokens self.new) }
+    {
+        self.skip_blanks();
+        let (form, count) = token_front(self.rest);
+        self.take(form, count)
+    }
+
+    /// The next token where it is this mark, which is one of those that no longer mark begins with.
+    #[inline(always)]
+    pub fn eat(&mut self, mark: Form) -> Option<Token<'t>>
+        requires { 1 ≤ mark_byte mark }
+        ensures found { IfSome result (λ t. tokens self.old ≡ from_token (seen t) (tokens self.new)) }
+        ensures form { IfSome result (λ t. t.form ≡ mark) }
+        ensures other { IfNone result ((number_of (first_form (tokens self.old)) == number_of mark) ≡ false) }
+        ensures stays { IfNone result (tokens self.new ≡ tokens self.old) }
+    {
+        self.skip_blanks();
+        if is_next(byte_of(mark), self.rest) {
+            Some(self.take(mark, 1))
+        } else {
+            None
+        }
+    }
+
+    /// The next token where it is a word.
+    #[inline(always)]
+    pub fn word(&mut self) -> Option<Token<'t>>
+        ensures found { IfSome result (λ t. tokens self.old ≡ from_token (seen t) (tokens self.new)) }
+        ensures form { IfSome result (λ t. t.form ≡ Word) }
+        ensures stays { IfNone result (tokens self.new ≡ tokens self.old) }
+    {
+        self.skip_blanks();
+        let count = word_front(self.rest);
+        if count == 0 {
+            None
+        } else {
+            Some(self.take(Form::Word, count))
+        }
+    }
+
+    /// The next token and its value, which stops growing at a million, where it is an integer.
+    #[inline(always)]
+    pub fn integer(&mut self) -> Option<(Token<'t>, u32)>
+        ensures found { IfSome result (λ x. tokens self.old ≡ from_token (seen x.0) (tokens self.new)) }
+        ensures form { IfSome result (λ x. x.0.form ≡ Number) }
+        ensures digits { IfSome result (λ x. list_all is_ascii_digit x.0.bytes.now ≡ true) }
+        ensures value { IfSome result (λ x. x.1 ≡ min (digits_value 10 x.0.bytes.now) GREAT) }
+        ensures stays { IfNone result (tokens self.new ≡ tokens self.old) }
+    {
+        self.skip_blanks();
+        let (count, value) = integer_front(self.rest);
+        if count == 0 {
+            None
+        } else {
+            Some((self.take(Form::Number, count), value))
+        }
+    }
+
+    /// Whether the end of the text comes next.
+    #[inline(always)]
+    pub fn is_at_end(&mut self) -> bool
+        ensures same { tokens self.new ≡ tokens self.old }
+        ensures end { result ≡ (number_of (first_form (tokens self.new)) == number_of Missing) }
+        ensures last { result ≡ true → length (tokens self.new) ≡ 1 }
+    {
+        self.skip_blanks();
+        self.rest.is_empty()
     }
 
     /// The form of the next token, which stays next.

@@ -8,6 +8,7 @@ mod laws;
 mod lexer;
 mod token;
 
+pub use front::GREAT;
 pub use laws::{added_bytes_change_what_follows, forms_have_numbers, texts_have_tokens};
 pub use lexer::Lexer;
 pub use token::{Form, Token};

@@ -14,15 +14,15 @@ pub record AreSkipped (gates : List Gate) (used : List Bool) (free : Bool) (next
   pub unused : (p w : ℕ) → from ≤ p → p < place → Touches (gate_at gates p) w → get_or used (w % 64) false ≡ false
   pub kinds : (p : ℕ) → from ≤ p → p < place → free ≡ true → kind_of (gate_at gates p) ≡ kind_of next → ⊥
 
--- Past such places the walk goes on as if it had looked at each of them.
-pub walk_skips : (gates pattern : List Gate) (end : ℕ) (places : List ℕ) (count place next : ℕ) (used : List Bool) (free : Bool) →
+-- Past places whose gates share no wire with the chosen ones, and which the next gate can't have, the walk goes on as if
+-- it had looked at each of them.
+pub walk_passes : (gates pattern : List Gate) (end : ℕ) (places : List ℕ) (count place next : ℕ) (free : Bool) →
     IsWalked gates pattern end places count place → count < length pattern → place ≤ next →
-    ((s w : ℕ) → s < count → Touches (gate_at gates (get_or places s 0)) w → get_or used (w % 64) false ≡ true) →
     (free ≡ false → ¬ ((before : ℕ) → before < count → AreApart (gate_at pattern before) (gate_at pattern count))) →
-    ((p w : ℕ) → place ≤ p → p < next → Touches (gate_at gates p) w → get_or used (w % 64) false ≡ false) →
+    ((p : ℕ) → place ≤ p → p < next → (s : ℕ) → s < count → AreApart (gate_at gates (get_or places s 0)) (gate_at gates p)) →
     ((p : ℕ) → place ≤ p → p < next → free ≡ true → kind_of (gate_at gates p) ≡ kind_of (gate_at pattern count) → ⊥) →
     IsWalked gates pattern end places count next
-walk_skips gates pattern end places count place next used free walked more upto are_used bound unused other_kind = record {
+walk_passes gates pattern end places count place next free walked more upto bound apart other_kind = record {
   next = record {
     above = λ s below. (let low : get_or places s 0 < place = walked.next.above s below in omega arith);
     clear = λ s p below passed behind less. clear s p below passed behind less (cases_order p place);
@@ -30,12 +30,6 @@ walk_skips gates pattern end places count place next used free walked more upto 
   none = λ other full begins. none other full begins (cases_order (get_or other count 0) next);
 }
   where
-    apart : (p : ℕ) → place ≤ p → p < next → (s : ℕ) → s < count → AreApart (gate_at gates (get_or places s 0)) (gate_at gates p)
-    apart p from less s below w uses_chosen uses =
-        let yes : get_or used (w % 64) false ≡ true = are_used s w below uses_chosen in
-        let no : get_or used (w % 64) false ≡ false = unused p w from less uses in
-        let clash : true ≡ false = sym yes ∙ no in absurd (cc)
-
     clear : (s p : ℕ) → s < count → IsPassed places count p → get_or places s 0 < p → p < next → (p ≡ place) ⊎ ((p < place) ⊎ (place < p)) →
         Commutes (gate_at gates (get_or places s 0)) (gate_at gates p)
     clear s p below passed behind less (inl same) =
@@ -58,3 +52,20 @@ walk_skips gates pattern end places count place next used free walked more upto 
     none other full begins (inl same) = omega arith
     none other full begins (inr (inl less)) = absurd (never other full begins less free refl)
     none other full begins (inr (inr behind)) = omega arith
+
+-- The same, where the wires in use are told by their remainders.
+pub walk_skips : (gates pattern : List Gate) (end : ℕ) (places : List ℕ) (count place next : ℕ) (used : List Bool) (free : Bool) →
+    IsWalked gates pattern end places count place → count < length pattern → place ≤ next →
+    ((s w : ℕ) → s < count → Touches (gate_at gates (get_or places s 0)) w → get_or used (w % 64) false ≡ true) →
+    (free ≡ false → ¬ ((before : ℕ) → before < count → AreApart (gate_at pattern before) (gate_at pattern count))) →
+    ((p w : ℕ) → place ≤ p → p < next → Touches (gate_at gates p) w → get_or used (w % 64) false ≡ false) →
+    ((p : ℕ) → place ≤ p → p < next → free ≡ true → kind_of (gate_at gates p) ≡ kind_of (gate_at pattern count) → ⊥) →
+    IsWalked gates pattern end places count next
+walk_skips gates pattern end places count place next used free walked more upto are_used bound unused other_kind =
+    walk_passes gates pattern end places count place next free walked more upto bound apart other_kind
+  where
+    apart : (p : ℕ) → place ≤ p → p < next → (s : ℕ) → s < count → AreApart (gate_at gates (get_or places s 0)) (gate_at gates p)
+    apart p from less s below w uses_chosen uses =
+        let yes : get_or used (w % 64) false ≡ true = are_used s w below uses_chosen in
+        let no : get_or used (w % 64) false ≡ false = unused p w from less uses in
+        let clash : true ≡ false = sym yes ∙ no in absurd (cc)

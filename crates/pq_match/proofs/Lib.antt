@@ -1,3 +1,4 @@
+pub mod Leading
 pub mod Moving
 mod FirstOfOrder
 mod FirstOfSettled
@@ -11,6 +12,8 @@ pub mod RewritingPlaces
 pub mod Growing
 pub mod GrowingWalk
 pub mod GrowingSkips
+pub mod CursorLaws
+pub mod Seeking
 pub mod SearchWires
 pub mod SearchTouches
 pub mod SearchNear
@@ -22,4 +25,6 @@ pub mod SearchRow
 pub mod SearchNumbers
 pub mod SearchFrom
 pub mod SearchWithin
+pub mod SeekRow
+pub mod Starting
 pub mod RewritingTests

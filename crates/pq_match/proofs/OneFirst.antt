@@ -86,7 +86,7 @@ one_found rules gates span None (Some y) sound left right = absurd (left.none y 
 one_found rules gates span (Some x) None sound left right = absurd (right.none x left.is left.among)
 one_found rules gates span (Some x) (Some y) sound left right = ap Some (one_first rules gates span x y sound left right)
 
-last_inside : (n : ℕ) (places : List ℕ) → All (λ i. i < n) places → 0 < length places → last_place places < n
+pub last_inside : (n : ℕ) (places : List ℕ) → All (λ i. i < n) places → 0 < length places → last_place places < n
 last_inside n [] inside some = absurd (omega arith)
 last_inside n (p ∷ []) inside some = inside 0 0 (omega arith)
 last_inside n (p ∷ q ∷ places) inside some =

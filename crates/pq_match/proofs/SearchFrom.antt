@@ -27,7 +27,7 @@ module _ (rules : List RowView) (gates : List Gate) (start end : ℕ) where
   stands_by_row other (suc k) row numbered begin = number_stands (number_of (kind_of (gate_at gates start))) 1 rules k (suc k) row numbered begin (omega arith)
 
   -- the row of a redex that begins here is among those whose first gate is of this gate's kind
-  row_stands : (other : RedexView) → IsRedex rules gates other → get_or other.places 0 0 ≡ start → StandsAt (numbers_starting (number_of (kind_of (gate_at gates start))) 1 rules) other.row
+  pub row_stands : (other : RedexView) → IsRedex rules gates other → get_or other.places 0 0 ≡ start → StandsAt (numbers_starting (number_of (kind_of (gate_at gates start))) 1 rules) other.row
   row_stands other is at =
       let whole : length other.places ≡ length is.row.pattern = places_long gates is.row.pattern other.wires other.places is.matches.chosen in
       let places_some : 0 < length other.places = is.some in

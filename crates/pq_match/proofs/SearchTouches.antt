@@ -2,17 +2,9 @@
 use Rattle.std.proofs.Common.{◌≡◌, ℕ, Bool, true, false, inl, inr, sym, subst, ◌∙◌}
 use Rattle.pq_gate.specs.declared.gate.Gate.{Gate}
 use Rattle.pq_gate.specs.Commuting.{Touches, Commutes}
-use Rattle.pq_gate.proofs.WireLaws.{touched as touched_once, touches_first, touches_last}
+pub use Rattle.pq_links.proofs.Touching.{touched, touching}
 use Rattle.pq_match.specs.Wires.{wire_of}
 use Rattle.pq_match.specs.Search.{AreApart, AreAlike}
-
--- which of the gate's wires this one is
-pub touched : (gate : Gate) (w : ℕ) → Touches gate w → (one : Bool) × (w ≡ wire_of one gate)
-touched gate w uses = elim (touched_once gate w uses) [ inl first ↦ (false, first) | inr last ↦ (true, last) ]
-
-pub touching : (gate : Gate) (one : Bool) → Touches gate (wire_of one gate)
-touching gate false = touches_first gate
-touching gate true = touches_last gate
 
 -- gates that share no wire commute
 pub commute_apart : (first second : Gate) → AreApart first second → Commutes first second

@@ -4,9 +4,13 @@ pub use Rattle.pq_gate.specs.Commuting
 pub use Rattle.pq_rules.specs.Row
 pub use Rattle.pq_rules.specs.Kinds
 pub use Rattle.pq_rules.specs.Renaming
+pub use Rattle.pq_links.specs.Wires
+pub use Rattle.pq_links.specs.Places
+pub use Rattle.pq_links.specs.Links
 pub mod Redex
 pub mod First
 pub mod Rewrite
 pub mod Found
-pub mod Wires
+pub mod Seek
+pub mod Segment
 pub mod Search

@@ -1,16 +1,12 @@
 -- Where a row of rules may rewrite a list of gates.
-use Rattle.std.specs.Prelude.{◌≡◌, ◌≢◌, ℕ, ◌+◌, ◌<◌, ◌==◌, true, false, Bool, List, [], ◌∷◌, length, map, slice_index, slice_index_or, Some, All, AllPairs}
+use Rattle.std.specs.Prelude.{◌≡◌, ◌≢◌, ℕ, ◌+◌, ◌<◌, ◌==◌, true, false, Bool, List, [], ◌∷◌, length, map, slice_index, Some, All, AllPairs}
 use Rattle.std.specs.List.{list_any}
 use Rattle.pq_gate.specs.declared.gate.Gate.{Gate}
-use Rattle.pq_gate.specs.declared.gate.Gate.TheVariants.{H}
+pub use Rattle.pq_links.specs.Places.{gate_at}
 use Rattle.pq_gate.specs.Commuting.{Commutes}
 use Rattle.pq_rules.specs.Row.{RowView}
 use Rattle.pq_rules.specs.Renaming.{renamed}
 use Rattle.pq_rules.specs.Kinds.{row_numbered}
-
--- the gate at a place; past the end there is none, and this is H on wire 0
-abbrev pub gate_at : List Gate → ℕ → Gate
-gate_at gates place = slice_index_or gates place (H 0)
 
 -- the last of some places, 0 where there is none
 abbrev pub last_place : List ℕ → ℕ

@@ -6,24 +6,12 @@ ghost use Rattle.pq_match.specs.Found.{FindsAmong, FindsWithin, IsFirstFound};
 ghost use Rattle.pq_match.specs.Search.{AreApart, IsAlike, AreAlike, IsFitting, IsNext, HasKindsNear, IsPassable, IsGrown, FindsFull, AreEight, IsFrom, IsOfRow};
 
 use crate::redex::Redex;
-use crate::segment::Seg;
 use pq_gate::{Gate, KINDS, commutes};
 use pq_limits::{MAX_GATES, MAX_ROW_GATES};
 use pq_rules::Rules;
 
 // how many numbers of kinds there are, as a length
 const KIND_NUMBERS: usize = KINDS as usize;
-
-/// The first redex of a segment: the least first place, then the least row, then the least places in
-/// the order of a dictionary. None exactly where there is none. It takes no memory.
-#[tactic(auto, using(crate::proofs::OneFirst::first_of_all))]
-pub fn find_first(seg: &Seg, rules: &Rules) -> Option<Redex>
-    ensures none { IfNone result (HasNoRedex rules.now seg.now.items) }
-    ensures first { IfSome result (λ redex. IsFirstFound rules.now seg.now.items (length seg.now.items) redex) }
-{
-    let gates = seg.gates();
-    find_within(gates, rules, gates.len() as u32)
-}
 
 /// The first redex of at most 1,048,576 gates whose last place minus its first place is less than
 /// `span`. None exactly where there is none. It takes no memory.
@@ -261,7 +249,7 @@ fn use_wires(used: &mut [bool; 64], gate: Gate)
 }
 
 // whether the gate shares no wire with those before it
-fn stands_apart(pattern: &[Gate], number: usize) -> bool
+pub(crate) fn stands_apart(pattern: &[Gate], number: usize) -> bool
     requires { number < length pattern.now }
     ensures { IsTrue result ↔ ((before : ℕ) → before < number → AreApart (gate_at pattern.now before) (gate_at pattern.now number)) }
 {
@@ -301,7 +289,12 @@ fn may_use(gate: Gate, used: &[bool; 64]) -> bool
 }
 
 // whether the gate at the last of the places fits to the pattern, and to the gates before it
-fn fits(gates: &[Gate], pattern: &[Gate], places: &[u32; MAX_ROW_GATES], last: usize) -> bool
+pub(crate) fn fits(
+    gates: &[Gate],
+    pattern: &[Gate],
+    places: &[u32; MAX_ROW_GATES],
+    last: usize,
+) -> bool
     requires next { last < length pattern.now }
     requires short { length pattern.now ≤ MAX_ROW_GATES }
     requires inside { (s : ℕ) → s ≤ last → slice_index places.now s < length gates.now }
@@ -320,7 +313,12 @@ fn fits(gates: &[Gate], pattern: &[Gate], places: &[u32; MAX_ROW_GATES], last: u
 }
 
 // whether the gate at the place commutes with all the chosen gates
-fn is_passable(gates: &[Gate], places: &[u32; MAX_ROW_GATES], count: usize, place: u32) -> bool
+pub(crate) fn is_passable(
+    gates: &[Gate],
+    places: &[u32; MAX_ROW_GATES],
+    count: usize,
+    place: u32,
+) -> bool
     requires few { count ≤ MAX_ROW_GATES }
     requires place { place < length gates.now }
     requires inside { (s : ℕ) → s < count → slice_index places.now s < length gates.now }
@@ -387,7 +385,7 @@ fn kind(gate: Gate) -> usize
 }
 
 // whether the gates are of one kind: phases, by the same eighths
-fn are_of_one_kind(first: Gate, second: Gate) -> bool
+pub(crate) fn are_of_one_kind(first: Gate, second: Gate) -> bool
     ensures { IsTrue result ↔ (kind_of first ≡ kind_of second) }
 {
     first.kind() == second.kind()

@@ -1,7 +1,11 @@
-ghost use Rattle.std.specs.Prelude.{◌≡◌, ◌<◌, ◌≤◌, [], ◌∷◌, ◌++◌, length, IfOk};
+ghost use Rattle.std.specs.Prelude.{◌≡◌, ℕ, ◌<◌, ◌≤◌, ◌↔◌, [], ◌∷◌, ◌++◌, length, IfOk, IfSome, IsNone};
+ghost use Rattle.pq_gate.specs.Commuting.{Touches};
+ghost use Rattle.pq_match.specs.Redex.{gate_at};
+ghost use Rattle.pq_match.specs.Segment.{IsNextUse};
 
 use pq_gate::Gate;
 use pq_limits::MAX_SEGMENT;
+use pq_links::Links;
 use pq_list::{OutOfMemory, crosses_threads};
 use std::alloc::Global;
 use std::marker::Model;
@@ -12,20 +16,26 @@ use std::marker::Model;
 #[derive(Drop)]
 pub struct Seg {
     pub(crate) gates: Vec<Gate>,
+    pub(crate) links: Links,
+
+    // For starts from the first on: 0 where nothing is known, or how far a search looked that found no redex there.
+    pub(crate) tried: Vec<u32>,
     pub(crate) asked: u32,
 }
 
 impl Model for Seg {
     ghost use Rattle.std.specs.Prelude.{◌≤◌, vec_len, vec_capacity};
     ghost use Rattle.pq_limits.specs.declared.TheConstants.{MAX_SEGMENT};
-    ghost use Rattle.pq_list.specs.Roomed.{Roomed};
-    ghost use Rattle.pq_gate.specs.declared.gate.Gate.{Gate};
+    ghost use Rattle.std.specs.Prelude.{◌≡◌};
+    ghost use Rattle.pq_links.specs.Links.{AreLinked};
+    ghost use Rattle.pq_match.specs.Segment.{SegView, HasRoom};
 
-    ghost Value = { Roomed Gate };
+    ghost Value = { SegView };
 
-    ghost view = { λ a. record { items = a.gates.items; room = a.asked } };
+    ghost view = { λ a. record { items = a.gates.items; room = a.asked; tried = a.tried.items } };
 
-    ghost invariant = { λ a. (vec_len a.gates ≤ a.asked) × (a.asked ≤ vec_capacity a.gates) × (a.asked ≤ MAX_SEGMENT) };
+    ghost invariant = { λ a. HasRoom (vec_len a.gates) (vec_capacity a.gates) a.asked × HasRoom (vec_len a.tried) (vec_capacity a.tried) a.asked ×
+        (a.asked ≤ MAX_SEGMENT) × AreLinked a.gates.items a.links × (a.links.room ≡ a.asked) };
 }
 
 impl Seg {
@@ -36,7 +46,14 @@ impl Seg {
         ensures room { IfOk result (λ made. made.room ≡ room) }
     {
         let gates = Vec::with_capacity(alloc, room as usize)?;
-        Ok(Seg { gates, asked: room })
+        let links = Links::with_room(alloc, room)?;
+        let tried = Vec::with_capacity(alloc, room as usize)?;
+        Ok(Seg {
+            gates,
+            links,
+            tried,
+            asked: room,
+        })
     }
 
     /// The room that was asked for.
@@ -52,6 +69,8 @@ impl Seg {
         ensures room { self.new.room ≡ self.old.room }
     {
         self.gates.clear();
+        self.links.clear();
+        self.tried.clear();
     }
 
     /// Appends a gate.
@@ -60,7 +79,26 @@ impl Seg {
         ensures items { self.new.items ≡ self.old.items ++ gate ∷ [] }
         ensures room { self.new.room ≡ self.old.room }
     {
+        self.links.push(self.gates.as_slice(), gate);
         self.gates.push_reserved(gate);
+        self.tried.clear();
+    }
+
+    /// The least place behind this one whose gate uses the wire, None exactly where there is none. The gate at the
+    /// place has to use the wire. It takes no memory.
+    pub fn next_on_wire(&self, place: u32, wire: u32) -> Option<u32>
+        requires place { place < length self.now.items }
+        requires uses { Touches (gate_at self.now.items place) wire }
+        ensures next { IfSome result (IsNextUse self.now.items wire place) }
+        ensures none { IsNone result ↔ ((later : ℕ) → place < later → later < length self.now.items → ¬ Touches (gate_at self.now.items later) wire) }
+    {
+        let gates = self.gates.as_slice();
+        let next = self.links.next_on(gates, place, wire);
+        if (next as usize) < gates.len() {
+            Some(next)
+        } else {
+            None
+        }
     }
 
     /// The gates, in circuit order.

@@ -1,5 +1,8 @@
+ghost use Rattle.std.specs.Prelude.{◌≤◌};
+
 use crate::{Redex, Seg, find_first, find_within};
 use pq_gate::{Eighths, Gate};
+use pq_limits::MAX_SEGMENT;
 use pq_list::OutOfMemory;
 use pq_rules::Rules;
 use std::alloc::Global;
@@ -136,5 +139,56 @@ fn a_segment_is_searched_to_its_end(rt: HostRuntime) -> Result<(), Fail> {
     seg.push(Gate::H { wire: 7 });
     let found = told(rt.alloc(), find_first(&seg, &rules))?;
     assert!(rt; found.as_str() == "1 at 0 2");
+    Ok(())
+}
+
+#[test]
+fn a_gate_knows_the_next_one_on_each_of_its_wires(rt: HostRuntime) -> Result<(), Fail> {
+    let mut seg = Seg::reserve(rt.alloc(), 3)?;
+    seg.push(Gate::H { wire: 0 });
+    seg.push(Gate::Cx {
+        control: 0,
+        target: 1,
+    });
+    seg.push(Gate::Phase {
+        eighths: Eighths::T,
+        wire: 1,
+    });
+    assert_eq!(&rt; seg.next_on_wire(0, 0), Some(1));
+    assert_eq!(&rt; seg.next_on_wire(1, 1), Some(2));
+    assert_eq!(&rt; seg.next_on_wire(1, 0), None);
+    Ok(())
+}
+
+// T and S in turn on a wire, between two H on another one, so many gates in all.
+fn turns_between(alloc: Global, count: u32) -> Result<Seg, OutOfMemory>
+    requires { count ≤ MAX_SEGMENT }
+{
+    let mut seg = Seg::reserve(alloc, count)?;
+    for number in 0..count {
+        let turn = if number % 2 == 0 {
+            Eighths::T
+        } else {
+            Eighths::S
+        };
+        let at_end = number == 0 || number == count - 1;
+        seg.push(if at_end {
+            Gate::H { wire: 0 }
+        } else {
+            Gate::Phase {
+                eighths: turn,
+                wire: 1,
+            }
+        });
+    }
+    Ok(seg)
+}
+
+#[test]
+fn a_redex_reaches_from_the_first_gate_to_the_last(rt: HostRuntime) -> Result<(), Fail> {
+    let rules = Rules::builtin(rt.alloc())?;
+    let seg = turns_between(rt.alloc(), MAX_SEGMENT)?;
+    let found = told(rt.alloc(), find_first(&seg, &rules))?;
+    assert!(rt; found.as_str() == "1 at 0 2047");
     Ok(())
 }

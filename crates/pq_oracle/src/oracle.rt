@@ -5,7 +5,7 @@ ghost use Rattle.pq_match.specs.Redex.{HasNoRedex};
 ghost use Rattle.pq_oracle.specs.Ora.{Ora};
 ghost use Rattle.pq_oracle.specs.Outcomes.{answer_of};
 
-use pq_match::{Seg, find_first};
+use pq_match::Seg;
 use pq_rules::Rules;
 
 /// What came of a segment.
@@ -34,7 +34,8 @@ pub fn improve(rules: &Rules, seg: &mut Seg) -> Outcome
         improved: false,
         phase: 0,
     };
-    'rewrites: while let Some(redex) = find_first(seg, rules) {
+    seg.forget();
+    'rewrites: while let Some(redex) = seg.find_on(rules) {
         let phase = seg.apply(rules, &redex);
         outcome = Outcome {
             improved: true,

@@ -80,6 +80,23 @@ fn rewriting_goes_on_until_there_is_no_redex(rt: HostRuntime) -> Result<(), Fail
     Ok(())
 }
 
+// A rewriting opens a redex that begins before it, on a wire that it didn't touch.
+#[test]
+fn a_rewriting_opens_a_redex_before_it(rt: HostRuntime) -> Result<(), Fail> {
+    let h1 = Gate::H { wire: 1 };
+    let x1 = Gate::X { wire: 1 };
+    let cx01 = Gate::Cx {
+        control: 0,
+        target: 1,
+    };
+    let cx10 = Gate::Cx {
+        control: 1,
+        target: 0,
+    };
+    leaves(&rt, &[H, h1, x1, x1, cx01, H, h1], &[cx10], true, 0)?;
+    Ok(())
+}
+
 // Two H gates, worked under this ticket.
 fn worked<'r>(alloc: Global, rules: &'r Rules, ticket: u64) -> Result<Worked<'r>, OutOfMemory> {
     let input = GateList::of(Vec::from_slice(alloc, &[H, H])?);

@@ -8,8 +8,8 @@ use borrow.Author.Tests.{eqb-false, ltb-false}
 use Rattle.pq_lex.specs.declared.token.Form.TheVariants.{Word, Semicolon, LeftBracket, RightBracket}
 use Rattle.pq_lex.specs.Token.{TokenView}
 use Rattle.pq_gate.specs.declared.gate.Gate.{Gate}
-use Rattle.pq_gate.specs.declared.gate.Gate.TheVariants as gates
-use Rattle.pq_gate.specs.Circuit.{IsOnWires, IsCircuit}
+use Rattle.pq_gate.specs.Circuit.{AreOn, IsOnWires, IsCircuit}
+use Rattle.pq_gate.specs.Ports.{wires_of}
 use Rattle.pq_text.specs.Program.{RegisterView, TailView, Barrier, Measure, ProgramView, places_of, entries_of}
 use Rattle.pq_text.specs.WellFormed.{IsRegister, IsMeasurement, IsTailEntry, WellFormed}
 use Rattle.pq_read.specs.declared.refusal.Kind.{Kind}
@@ -103,12 +103,14 @@ good_start = record { qregs = tt; cregs = tt; q_apart = tt; c_apart = tt; cross 
 pub kept_of : (r : RegisterView) → IsRegister r → IsKept r
 kept_of r h = record { named = lawful_is_name r.name h.named.lawful; some = h.some }
 
+wires_more : (n m : ℕ) → n ≤ m → (wires : List ℕ) → AreOn n wires → AreOn m wires
+wires_more n m le [] h = tt
+wires_more n m le (wire ∷ []) h = omega arith
+wires_more n m le (first ∷ second ∷ rest) h = (let a : first < n = h.0 in omega arith, let b : second < n = h.1 in omega arith, h.2)
+
 -- more registers: what was on the wires and the bits still is
 pub on_more : (n m : ℕ) → n ≤ m → (g : Gate) → IsOnWires n g → IsOnWires m g
-on_more n m le (gates.H wire) h = omega arith
-on_more n m le (gates.X wire) h = omega arith
-on_more n m le (gates.Phase eighths wire) h = omega arith
-on_more n m le (gates.Cx control target) h = (let a : control < n = h.0 in omega arith, let b : target < n = h.1 in omega arith, h.2)
+on_more n m le g h = wires_more n m le (wires_of g) h
 
 pub entry_more : (n m n' m' : ℕ) → n ≤ n' → m ≤ m' → (t : TailView) → IsEntry n m t → IsEntry n' m' t
 entry_more n m n' m' ln lm (Barrier wires) h = (record { in_range = all_map (λ w. w < n) (λ w. w < n') wires (λ w l. omega arith) h.0.in_range; apart = h.0.apart }, h.1)

@@ -16,12 +16,12 @@ use Rattle.pq_read.specs.declared.word.FirstWord.TheVariants.{Unsupported as Uns
 use Rattle.pq_read.specs.Words.{first_word, unsupported_words}
 use Rattle.pq_read.proofs.Names.{and_both}
 use Rattle.pq_read.specs.declared.program.Options.{Options}
-use Rattle.pq_read.specs.Faults.{◌>>=◌, refused, is_form, head}
+use Rattle.pq_read.specs.Faults.{◌>>=◌, refused, is_form}
 use Rattle.pq_read.specs.Environment.{Env, start}
 use Rattle.pq_read.specs.After.{header_at, put, statement_by, statement_at, piece_at, after}
 use Rattle.pq_read.specs.Pieces.{Cut, Front, Until, ends_with, ended_by, joined_to, cut}
 use Rattle.pq_read.specs.Reads.{is_done, read_pieces, read_tokens, read_of, Reads, IsRefusedFor}
-use Rattle.pq_lex.specs.Lex.{tokens_of}
+use Rattle.pq_lex.specs.Lex.{tokens_of, first_form}
 use Rattle.pq_read.specs.Gives.{Fails, through, beyond}
 
 -- whether a `;` comes
@@ -233,10 +233,10 @@ read_done options E (t ∷ []) done one =
     (λ i. read_pieces options E (c i).pieces (c i).rest)
     ∙ ap (λ b. let r : Result ProgramView Refusal = cond b (Ok E.program) (after options E (t ∷ []) >>= λ F. Ok F.program) in r) done
 
-pub head_through_all : (ts : List TokenView) → head (through ts) ≡ head ts
-unfolding through
-head_through_all [] = refl
-head_through_all (t ∷ ts) = refl
+-- whether nothing is left, by the form of the next token
+pub done_told : (E : Env) (ts : List TokenView) (ended : Bool) → ended ≡ eqb (number_of (first_form ts)) 18 → (E.header && ended) ≡ is_done E ts
+done_told E [] ended is = ap (λ b. E.header && b) is
+done_told E (t ∷ ts) ended is = ap (λ b. E.header && b) is
 
 pub read_fails : (error : ReadError) (options : Options) (E : Env) (ts : List TokenView) (total : Result ProgramView Refusal)
     → Fails error (piece_at options E (through ts)) → is_done E ts ≡ false → 1 ≤ length ts → read_tokens options E ts ≡ total → Fails error total

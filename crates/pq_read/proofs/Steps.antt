@@ -1,14 +1,16 @@
 -- One token of a piece.
-use Rattle.std.proofs.Common.{◌≡◌, Bool, true, false, cond, List, [], ◌∷◌, Result, Ok, Err, if◌then◌else◌, refl, sym, ap, ◌∙◌, subst}
-use borrow.Author.Tests.{eqb-true}
+use Rattle.std.proofs.Common.{◌≡◌, Bool, true, false, eqb, cond, List, [], ◌∷◌, Result, Ok, Err, if◌then◌else◌, refl, sym, ap, ◌∙◌, subst}
+use borrow.Author.Tests.{eqb-true, eq-eqb}
+use Rattle.std.specs.List.{list_all}
+use Rattle.std.specs.Char.{is_ascii_digit}
 use Rattle.pq_lex.specs.declared.token.Form.{Form}
-use Rattle.pq_lex.specs.declared.token.Form.TheVariants.{Word, Semicolon, Malformed}
-use Rattle.pq_lex.specs.Token.{TokenView, is_last}
+use Rattle.pq_lex.specs.declared.token.Form.TheVariants.{Word, Number, Semicolon, Malformed}
+use Rattle.pq_lex.specs.Token.{TokenView, number_of, is_last}
 use Rattle.pq_lex.specs.Lex.{from_token, first_form}
 use Rattle.pq_lex.proofs.Forms.{same_form}
 use Rattle.pq_read.specs.declared.refusal.Refusal.{Refusal}
-use Rattle.pq_read.specs.declared.refusal.Kind.TheVariants.{BadToken, NoHeader}
-use Rattle.pq_read.specs.Faults.{refused, unexpected, is_form, head, demanded}
+use Rattle.pq_read.specs.declared.refusal.Kind.TheVariants.{BadToken, NoHeader, Syntax}
+use Rattle.pq_read.specs.Faults.{refused, unexpected, is_form, head, demanded, integer_at, ◌>>=◌}
 use Rattle.pq_read.specs.After.{begins_header, header_word}
 use Rattle.pq_read.proofs.Names.{and_both}
 use Rattle.pq_read.specs.Gives.{through, beyond, IsInside}
@@ -85,3 +87,43 @@ header-other t ts more true e is bad =
 header-other t ts more false e is bad =
     ap (λ l. header_word (through l)) e
     ∙ (λ i. let r : Result (TokenView × List TokenView) Refusal = cond (is i) (Ok (t, cond (is_form Semicolon t) [] (through (cond (is_last t.form) [] more)))) (cond (bad i) (Err (refused BadToken t)) (Err (refused NoHeader t))) in r)
+
+is_of : (form : Form) (t : TokenView) → t.form ≡ form → is_form form t ≡ true
+is_of form t is = eq-eqb (number_of t.form) (number_of form) (ap number_of is)
+
+-- the next token, whose form is known
+pub demanded-known : (form : Form) (t : TokenView) (ts more : List TokenView) → ts ≡ from_token t more → t.form ≡ form → IsInside form
+    → demanded form (through ts) ≡ Ok (t, through more)
+demanded-known form t ts more e is inside = demanded-found form t ts more e (is_of form t is) inside
+
+pub beyond-known : (form : Form) (t : TokenView) (ts more : List TokenView) → ts ≡ from_token t more → t.form ≡ form → IsInside form → beyond more ≡ beyond ts
+beyond-known form t ts more e is inside = beyond-found form t ts more e (is_of form t is) inside
+
+pub demanded-end-known : (t : TokenView) (ts more : List TokenView) → ts ≡ from_token t more → t.form ≡ Semicolon → demanded Semicolon (through ts) ≡ Ok (t, [])
+demanded-end-known t ts more e is = demanded-end t ts more e (is_of Semicolon t is)
+
+pub beyond-end-known : (t : TokenView) (ts more : List TokenView) → ts ≡ from_token t more → t.form ≡ Semicolon → more ≡ beyond ts
+beyond-end-known t ts more e is = beyond-end t ts more e (is_of Semicolon t is)
+
+pub head-known : (t : TokenView) (ts more : List TokenView) → ts ≡ from_token t more → head (through ts) ≡ t
+unfolding through
+head-known t ts more e = ap (λ l. head (through l)) e
+
+pub test-known : (form : Form) (t : TokenView) (ts more : List TokenView) → ts ≡ from_token t more → t.form ≡ form → is_form form (head (through ts)) ≡ true
+test-known form t ts more e is = ap (is_form form) (head-known t ts more e) ∙ is_of form t is
+
+pub test-other : (form : Form) (ts : List TokenView) → eqb (number_of (first_form ts)) (number_of form) ≡ false → is_form form (head (through ts)) ≡ false
+test-other form ts other = ap (λ f. eqb (number_of f) (number_of form)) (head-through ts) ∙ other
+
+-- the next token must be an integer and is one
+pub integer-known : (t : TokenView) (ts more : List TokenView) → ts ≡ from_token t more → t.form ≡ Number → list_all is_ascii_digit t.bytes ≡ true
+    → integer_at (through ts) ≡ Ok (t, through more)
+unfolding integer_at
+integer-known t ts more e is digits =
+    ap (λ r. r >>= λ x. let s : Result (TokenView × List TokenView) Refusal = if list_all is_ascii_digit x.0.bytes then Ok x else Err (refused Syntax x.0) in s)
+    (demanded-known Number t ts more e is (record { no_end = refl; no_last = refl }))
+    ∙ ap (λ b. let s : Result (TokenView × List TokenView) Refusal = cond b (Ok (t, through more)) (Err (refused Syntax t)) in s) digits
+
+pub head-form : (ts : List TokenView) → (head ts).form ≡ first_form ts
+head-form [] = refl
+head-form (t ∷ ts) = refl

@@ -9,7 +9,7 @@ ghost use Rattle.pq_read.specs.Gives.{Gives, left, later};
 
 use crate::refusal::{Kind, ReadError, Refusal};
 use crate::registers::Registers;
-use crate::token::{demand, integer, is_next, refused};
+use crate::token::{demand_mark, demand_word, goes_over, integer, refused};
 use pq_lex::{Form, Lexer, Token};
 use pq_limits::MAX_PLACES;
 
@@ -33,6 +33,7 @@ pub struct Argument {
 
 // What follows `[` in an argument.
 #[tactic(auto, unfolding(crate::specs::Arguments::indexed_at))]
+#[inline(always)]
 fn read_index(lexer: &mut Lexer, span: Span, name: &Token) -> Result<Argument, ReadError>
     requires { span.first + span.size ≤ MAX_PLACES }
     ensures read { Gives (λ a. (a, left lexer.new)) result (indexed_at span (seen name.now) (left lexer.old)) }
@@ -43,7 +44,7 @@ fn read_index(lexer: &mut Lexer, span: Span, name: &Token) -> Result<Argument, R
     if index >= span.size {
         return Err(refused(Kind::IndexOutOfRange, &token));
     }
-    demand(lexer, Form::RightBracket)?;
+    demand_mark(lexer, Form::RightBracket)?;
     Ok(Argument {
         first: span.first + index,
         count: 1,
@@ -60,10 +61,9 @@ pub fn read_argument(lexer: &mut Lexer, registers: &Registers) -> Result<Argumen
     ensures later { OnOk result (later lexer.new ≡ later lexer.old) }
     ensures told { IfOk result IsArgument }
 {
-    let name = demand(lexer, Form::Word)?;
+    let name = demand_word(lexer)?;
     let span = registers.named(&name)?;
-    if is_next(lexer, Form::LeftBracket) {
-        demand(lexer, Form::LeftBracket)?;
+    if goes_over(lexer, Form::LeftBracket) {
         return read_index(lexer, span, &name);
     }
     Ok(Argument {
@@ -138,6 +138,7 @@ fn meet(a: &Argument, b: &Argument) -> bool
 }
 
 /// Checks an argument after the one before it.
+#[inline(always)]
 pub fn check_second(first: &Argument, a: &Argument) -> Result<(), ReadError>
     requires first { IsArgument first.now }
     requires a { IsArgument a.now }

@@ -13,8 +13,8 @@ use crate::name::{Name, name_of};
 use crate::program::Register;
 use crate::refusal::{Kind, ReadError};
 use crate::registers::{Registers, is_name};
-use crate::token::{GREAT, demand, demand_end, integer, refused};
-use pq_lex::{Form, Lexer, Token};
+use crate::token::{demand_end, demand_mark, demand_word, integer, refused};
+use pq_lex::{Form, GREAT, Lexer, Token};
 use pq_limits::{MAX_NAME, MAX_PLACES};
 use std::alloc::Global;
 
@@ -82,12 +82,12 @@ pub fn read_declaration(
     ensures told { IfOk result (λ r. IsNew own.now (register_view r)) }
     ensures free { IfOk result (λ r. is_taken quantum.now classical.now (register_view r).name ≡ false) }
 {
-    let word = demand(lexer, Form::Word)?;
+    let word = demand_word(lexer)?;
     check_name(quantum, classical, &word)?;
-    demand(lexer, Form::LeftBracket)?;
+    demand_mark(lexer, Form::LeftBracket)?;
     let (token, size) = integer(lexer)?;
     check_size(too_many, own, &token, size)?;
-    demand(lexer, Form::RightBracket)?;
+    demand_mark(lexer, Form::RightBracket)?;
     demand_end(lexer)?;
     let name = name_of(alloc, word.bytes)?;
     Ok(Register { name, size })

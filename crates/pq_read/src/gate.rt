@@ -12,7 +12,7 @@ ghost use Rattle.pq_read.specs.Listed.{listed, AreArguments};
 use crate::argument::{Argument, check_second, check_third, read_argument};
 use crate::refusal::{Kind, ReadError};
 use crate::registers::Registers;
-use crate::token::{demand, demand_end, refused};
+use crate::token::{demand_end, demand_mark, refused};
 use crate::word::GateWord;
 use pq_gate::{Eighths, Gate};
 use pq_lex::{Form, Lexer};
@@ -44,7 +44,7 @@ fn two_arguments(lexer: &mut Lexer, registers: &Registers) -> Result<Arguments, 
     ensures told { IfOk result AreArguments }
 {
     let first = read_argument(lexer, registers)?;
-    demand(lexer, Form::Comma)?;
+    demand_mark(lexer, Form::Comma)?;
     let second = read_argument(lexer, registers)?;
     check_second(&first, &second)?;
     Ok(Arguments::Two(first, second))
@@ -57,10 +57,10 @@ fn three_arguments(lexer: &mut Lexer, registers: &Registers) -> Result<Arguments
     ensures told { IfOk result AreArguments }
 {
     let first = read_argument(lexer, registers)?;
-    demand(lexer, Form::Comma)?;
+    demand_mark(lexer, Form::Comma)?;
     let second = read_argument(lexer, registers)?;
     check_second(&first, &second)?;
-    demand(lexer, Form::Comma)?;
+    demand_mark(lexer, Form::Comma)?;
     let third = read_argument(lexer, registers)?;
     check_third(&first, &second, &third)?;
     Ok(Arguments::Three(first, second, third))

@@ -8,7 +8,7 @@ ghost use Rattle.pq_read.specs.Registers.{IsKept};
 ghost use Rattle.pq_read.specs.Gives.{Gives, left, later};
 
 use crate::refusal::{Kind, ReadError};
-use crate::token::{demand, demand_end, has_form, refused};
+use crate::token::{demand_end, demand_number, demand_quoted, has_form, refused};
 use crate::word::is_text;
 use pq_lex::{Form, Lexer, Token};
 
@@ -41,7 +41,7 @@ pub fn read_header(lexer: &mut Lexer) -> Result<(), ReadError>
     ensures later { OnOk result (tokens lexer.new ≡ later lexer.old) }
 {
     read_header_word(lexer)?;
-    let version = demand(lexer, Form::Number)?;
+    let version = demand_number(lexer)?;
     if !is_text(b"2.0", version.bytes) {
         return Err(refused(Kind::Unsupported, &version));
     }
@@ -55,7 +55,7 @@ pub fn read_include(lexer: &mut Lexer) -> Result<(), ReadError>
     ensures read { Gives (λ _. (tt, [])) result (include_at (left lexer.old)) }
     ensures later { OnOk result (tokens lexer.new ≡ later lexer.old) }
 {
-    let file = demand(lexer, Form::Quoted)?;
+    let file = demand_quoted(lexer)?;
     if !is_text(b"\"qelib1.inc\"", file.bytes) {
         return Err(refused(Kind::Unsupported, &file));
     }

@@ -17,10 +17,10 @@ use crate::refusal::{Kind, ReadError};
 use crate::registers::Registers;
 use crate::tail::Tail;
 use crate::tail_statement::{read_barrier, read_measure};
-use crate::token::{demand, is_next, refused};
+use crate::token::{demand_word, refused};
 use crate::word::{FirstWord, GateWord, read_first_word};
 use pq_gate::{Gate, GateList};
-use pq_lex::{Form, Lexer, Token};
+use pq_lex::{Lexer, Token};
 use pq_limits::{MAX_GATES, MAX_INPUT};
 use pq_list::RoomList;
 use std::alloc::Global;
@@ -165,7 +165,7 @@ impl Reader {
         ensures later { OnOk result (tokens lexer.new ≡ later lexer.old) }
         ensures within { OnOk result (length self.new.gates.items ≤ MAX_GATES) }
     {
-        let token = demand(lexer, Form::Word)?;
+        let token = demand_word(lexer)?;
         let first = read_first_word(self.included, token.bytes);
         self.statement_by(alloc, lexer, options, &token, first)
     }
@@ -194,13 +194,13 @@ impl Reader {
 }
 
 // Whether nothing is left: the header was read, and the end of the text stands next.
-#[tactic(auto, using(crate::proofs::Pieces::head_through_all))]
+#[tactic(auto, using(crate::proofs::Pieces::done_told))]
 fn is_done(reader: &Reader, lexer: &mut Lexer) -> bool
     ensures test { result ≡ is_done (env_of reader.now) (tokens lexer.new) }
     ensures same { tokens lexer.new ≡ tokens lexer.old }
     ensures last { result ≡ true → length (tokens lexer.new) ≡ 1 }
 {
-    let ended = is_next(lexer, Form::Missing);
+    let ended = lexer.is_at_end();
     reader.header && ended
 }
 

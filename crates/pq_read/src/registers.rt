@@ -99,6 +99,7 @@ impl Registers {
     }
 
     // The span of the first register, where it has this name.
+    #[inline(always)]
     fn find_first(&self, name: &[u8]) -> Option<Span>
         ensures { IfSome result (λ span. span_from 0 self.now name.now ≡ Some span) }
     {
@@ -112,6 +113,7 @@ impl Registers {
     }
 
     // The span of the register with this name, by the map.
+    #[inline(never)]
     fn look_up(&self, name: &[u8]) -> Option<Span>
         ensures { result ≡ span_from 0 self.now name.now }
     {
@@ -123,6 +125,7 @@ impl Registers {
 
     /// The span of the register with this name. The first register is tried before the others, since
     /// most programs have one.
+    #[inline(always)]
     pub fn find(&self, name: &[u8]) -> Option<Span>
         ensures value { result ≡ span_from 0 self.now name.now }
         ensures told { IfSome result (λ span. IsSpan span name.now) }
@@ -135,6 +138,7 @@ impl Registers {
     }
 
     /// The span of the register that a word names.
+    #[inline(always)]
     pub fn named(&self, word: &Token) -> Result<Span, ReadError>
         ensures read { Gives (λ span. span) result (register_of self.now (seen word.now)) }
         ensures told { IfOk result (λ span. IsSpan span word.now.bytes.now) }

@@ -10,7 +10,7 @@ use crate::barrier_wires::BarrierWires;
 use crate::refusal::{Kind, ReadError};
 use crate::registers::Registers;
 use crate::tail::Tail;
-use crate::token::{demand, demand_end, is_next, refused};
+use crate::token::{demand_arrow, demand_end, goes_over, refused};
 use pq_lex::{Form, Lexer};
 use pq_limits::MAX_ENTRIES;
 use pq_list::OutOfMemory;
@@ -52,7 +52,7 @@ pub fn read_measure(
     ensures later { OnOk result (tokens lexer.new ≡ later lexer.old) }
 {
     let a = read_argument(lexer, quantum)?;
-    demand(lexer, Form::Arrow)?;
+    demand_arrow(lexer)?;
     let b = read_argument(lexer, classical)?;
     check_pair(&a, &b)?;
     let end = demand_end(lexer)?;
@@ -72,10 +72,9 @@ fn read_wires(alloc: Global, lexer: &mut Lexer, quantum: &Registers) -> Result<V
     loop {
         let a = read_argument(lexer, quantum)?;
         wires.adjoin_argument(&a)?;
-        if !is_next(lexer, Form::Comma) {
+        if !goes_over(lexer, Form::Comma) {
             return Ok(wires.into_wires());
         }
-        demand(lexer, Form::Comma)?;
     }
 }
 

@@ -1,5 +1,6 @@
-use Rattle.std.proofs.Common.{◌≡◌, ℕ, zero, suc, ◌^◌, ◌<◌, ◌≤◌, Bool, true, false, ◌&&◌, ◌||◌, eqb, ltb, leb, not, ◌⊎◌, List, [], ◌∷◌, length, get_or, map, inl, inr, refl, ap, sym, subst, eq-eqb, arith}
-use Rattle.std.specs.Prelude.{ℤ, pos, negsuc}
+use Rattle.std.proofs.Common.{◌≡◌, ℕ, zero, suc, ◌^◌, ◌<◌, Bool, true, false, ◌&&◌, ◌||◌, eqb, ltb, leb, not, ◌⊎◌, List, [], ◌∷◌, length, get_or, map, inl, inr, refl, ap, sym, subst, ◌∙◌, eq-eqb, arith}
+use Rattle.std.specs.Prelude.{ℤ, pos, negsuc, All}
+use Rattle.std.proofs.lemmas.List.{length-map, get_or-map}
 use Rattle.std.proofs.lemmas.Bool.{ltb-true, leb-true, eqb-true}
 use Rattle.pq_gate.specs.declared.gate.Gate.{Gate}
 use Rattle.pq_gate.specs.declared.ring.Ring.{Ring}
@@ -10,11 +11,11 @@ use Rattle.pq_gate.specs.Ports.{wires_of, IsAmong}
 use Rattle.pq_gate.specs.Ring.{nought, one, plus, turn, root, turned, rooted}
 use Rattle.pq_gate.proofs.RingLaws.{same_numbers}
 use Rattle.pq_gate.proofs.WireLaws.{uses_listed}
-use Rattle.pq_rules.specs.declared.table.Shape.{Shape}
-use Rattle.pq_rules.specs.declared.table.TheConstants.{GATES, SHAPES}
+use Rattle.pq_rules.specs.declared.rules.TheConstants.{BUILTIN_ROWS}
+use Rattle.pq_rules.specs.declared.table.BuiltinRule.{BuiltinRule}
 use Rattle.pq_rules.specs.Agreement.{AgreesAt}
 use Rattle.pq_rules.specs.Row.{RowView, Uses, IsSound}
-use Rattle.pq_rules.specs.Shapes.{shape_row}
+use Rattle.pq_rules.specs.Shapes.{rule_row}
 use Rattle.pq_rules.specs.States.{state}
 use Rattle.pq_rules.specs.Table.{builtin_rows}
 use Rattle.pq_rules.proofs.PairLaws.{number, state-number, number-below}
@@ -164,29 +165,25 @@ sound_of_test row is =
           (all_below-at (2 ^ row.wires) (λ f. all_below (2 ^ row.wires) (λ t. agree_test row f t)) h.1 f f_in) t t_in));
     }
 
-rows_pass : all_true (λ (s : Shape). row_test (shape_row GATES s)) SHAPES ≡ true
-unfolding nought one plus turn root
+rows_pass : all_true row_test builtin_rows ≡ true
+unfolding builtin_rows nought one plus turn root
 rows_pass = refl
 
--- each shape gives a sound row
-pub shape_sound : (i : ℕ) (d : Shape) → i < 52 → IsSound (shape_row GATES (get_or SHAPES i d))
-shape_sound i d inside = sound_of_test (shape_row GATES (get_or SHAPES i d)) (all_true-at (λ (s : Shape). row_test (shape_row GATES s)) SHAPES rows_pass i d inside)
+-- the built-in rows are sound
+pub builtin_rows_sound : All IsSound builtin_rows
+builtin_rows_sound i d inside = sound_of_test (get_or builtin_rows i d) (all_true-at row_test builtin_rows rows_pass i d inside)
 
-abbrev inside_test : Shape → Bool
-inside_test s = leb s.start s.middle && (leb s.middle s.end && leb s.end (length GATES))
+-- so are the rules of a table that has these rows
+pub sound_rules : (rules : List BuiltinRule) → map rule_row rules ≡ builtin_rows → All (λ rule. IsSound (rule_row rule)) rules
+sound_rules rules are i d inside =
+    let long : length (map rule_row rules) ≡ length rules = length-map rules rule_row in
+    let within : i < length builtin_rows = subst (λ (rows : List RowView). i < length rows) are (omega arith) in
+    subst IsSound (ap (λ (rows : List RowView). get_or rows i (rule_row d)) (sym are) ∙ get_or-map rule_row rules i d (rule_row d) inside)
+    (builtin_rows_sound i (rule_row d) within)
 
-shapes_inside : all_true inside_test SHAPES ≡ true
-shapes_inside = refl
-
--- its places are in order, and inside
-pub shape_inside : (i : ℕ) (d : Shape) → i < 52 →
-    ((get_or SHAPES i d).start ≤ (get_or SHAPES i d).middle) × ((get_or SHAPES i d).middle ≤ (get_or SHAPES i d).end) × ((get_or SHAPES i d).end ≤ length GATES)
-shape_inside i d inside =
-    let all : inside_test (get_or SHAPES i d) ≡ true = all_true-at inside_test SHAPES shapes_inside i d inside in
-    let a = both _ _ all in
-    let b = both _ _ a.1 in (leb-true _ _ a.0, leb-true _ _ b.0, leb-true _ _ b.1)
-
--- the shapes give the rows of the table
-pub shapes_are_rows : map (shape_row GATES) SHAPES ≡ builtin_rows
+count_rows : length builtin_rows ≡ BUILTIN_ROWS
 unfolding builtin_rows
-shapes_are_rows = refl
+count_rows = refl
+
+pub count_rules : (rules : List BuiltinRule) → map rule_row rules ≡ builtin_rows → length rules ≡ BUILTIN_ROWS
+count_rules rules are = sym (length-map rules rule_row) ∙ (ap length are ∙ count_rows)

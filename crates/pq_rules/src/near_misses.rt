@@ -1,54 +1,71 @@
 //! Built-in rows with one gate changed. The pairs of states that differ first were found by multiplying
 //! the complex matrices of the field, apart from this project's ring and definitions.
 
-ghost use Rattle.std.specs.Prelude.{◌≤◌, length};
-
 use crate::check::check_row;
 use crate::row::{RawRow, RowFault};
-use crate::rules::Rules;
-use pq_gate::{Eighths, Gate, GateList};
-use pq_limits::MAX_ROW_GATES;
+use pq_gate::{Gate, GateList};
 use pq_list::OutOfMemory;
 use std::alloc::Global;
 use std::process::Abort;
 use std::test::Fail;
 
-// a place where no row has a gate
-const NOWHERE: usize = MAX_ROW_GATES;
-
-// the gates, with the one at the place changed
-fn changed(alloc: Global, gates: &[Gate], place: usize, gate: Gate) -> Result<GateList, OutOfMemory>
-    requires { length gates.now ≤ MAX_ROW_GATES }
-{
-    let mut copy = Vec::from_slice(alloc, gates)?;
-    if place < copy.len() {
-        copy[place] = gate;
+// The gate of a short word: `h0` is H on wire 0, `c01` the CX with control 0 and target 1, `S0` the
+// inverse of S and `T0` that of T.
+fn gate_of(word: &[u8]) -> Option<Gate> {
+    match word {
+        [kind, wire] => gate_on(*kind, wire_of(*wire)),
+        [_, control, target] => Some(Gate::cx(wire_of(*control), wire_of(*target))),
+        _ => None,
     }
-    Ok(GateList::of(copy))
 }
 
-// the row with a gate changed in the pattern or in the replacement differs first at this pair
+fn wire_of(digit: u8) -> u32 {
+    u32::from(digit.saturating_sub(b'0'))
+}
+
+fn gate_on(kind: u8, wire: u32) -> Option<Gate> {
+    match kind {
+        b'h' => Some(Gate::h(wire)),
+        b'x' => Some(Gate::x(wire)),
+        b't' => Some(Gate::t(wire)),
+        b's' => Some(Gate::s(wire)),
+        b'z' => Some(Gate::z(wire)),
+        b'S' => Some(Gate::sdg(wire)),
+        b'T' => Some(Gate::tdg(wire)),
+        _ => None,
+    }
+}
+
+fn gates_of(rt: &(impl Abort + AllocGlobal), text: &str) -> Result<GateList, OutOfMemory> {
+    let mut gates = Vec::new(rt.alloc());
+    for word in text.split(' ') {
+        if let Some(gate) = gate_of(word.as_bytes()) {
+            gates.push(gate)?;
+        }
+    }
+    assert!(rt; gates.len() < 100);
+    Ok(GateList::of(gates))
+}
+
+// the row with these sides differs first at this pair
 fn differs(
     rt: &(impl Abort + AllocGlobal),
-    rules: &Rules,
-    number: u32,
-    in_pattern: usize,
-    in_replacement: usize,
-    gate: Gate,
+    wires: u8,
+    pattern: &str,
+    replacement: &str,
     pair: (u8, u8),
 ) -> Result<(), OutOfMemory> {
-    let row = rules.row(number).expect(rt, "a row");
     let raw = RawRow {
-        wires: row.wires(),
-        pattern: changed(rt.alloc(), row.pattern(), in_pattern, gate)?,
-        replacement: changed(rt.alloc(), row.replacement(), in_replacement, gate)?,
+        wires,
+        pattern: gates_of(rt, pattern)?,
+        replacement: gates_of(rt, replacement)?,
     };
     let (from, to) = pair;
     match check_row(raw) {
-        Ok(_row) => panic!(rt; "row {number} passes"),
+        Ok(_row) => panic!(rt; "{pattern} passes"),
         Err(fault) => assert!(rt;
             fault == RowFault::Differs { from, to },
-            "row {number}: {fault:?}"
+            "{pattern}: {fault:?}"
         ),
     }
     Ok(())
@@ -56,180 +73,29 @@ fn differs(
 
 #[test]
 fn near_misses_differ_where_the_matrices_do(rt: HostRuntime) -> Result<(), Fail> {
-    let rules = Rules::builtin(rt.alloc())?;
-    differs(
-        &rt,
-        &rules,
-        3,
-        1,
-        NOWHERE,
-        Gate::Cx {
-            control: 1,
-            target: 0,
-        },
-        (1, 1),
-    )?;
-    differs(
-        &rt,
-        &rules,
-        4,
-        NOWHERE,
-        0,
-        Gate::Phase {
-            eighths: Eighths::T,
-            wire: 0,
-        },
-        (1, 1),
-    )?;
-    differs(
-        &rt,
-        &rules,
-        8,
-        NOWHERE,
-        0,
-        Gate::Phase {
-            eighths: Eighths::Tdg,
-            wire: 0,
-        },
-        (1, 1),
-    )?;
-    differs(
-        &rt,
-        &rules,
-        12,
-        1,
-        NOWHERE,
-        Gate::Phase {
-            eighths: Eighths::S,
-            wire: 0,
-        },
-        (1, 1),
-    )?;
-    differs(&rt, &rules, 21, 0, NOWHERE, Gate::X { wire: 0 }, (0, 0))?;
-    differs(&rt, &rules, 24, 0, NOWHERE, Gate::H { wire: 0 }, (0, 0))?;
-    differs(&rt, &rules, 28, 0, NOWHERE, Gate::X { wire: 0 }, (0, 1))?;
-    differs(
-        &rt,
-        &rules,
-        30,
-        NOWHERE,
-        2,
-        Gate::Phase {
-            eighths: Eighths::T,
-            wire: 0,
-        },
-        (0, 1),
-    )?;
-    differs(
-        &rt,
-        &rules,
-        32,
-        NOWHERE,
-        0,
-        Gate::Phase {
-            eighths: Eighths::Sdg,
-            wire: 0,
-        },
-        (1, 0),
-    )?;
-    differs(&rt, &rules, 36, 0, NOWHERE, Gate::X { wire: 0 }, (0, 1))?;
-    differs(&rt, &rules, 40, 3, NOWHERE, Gate::X { wire: 0 }, (1, 0))?;
-    differs(
-        &rt,
-        &rules,
-        42,
-        2,
-        NOWHERE,
-        Gate::Phase {
-            eighths: Eighths::Tdg,
-            wire: 0,
-        },
-        (0, 0),
-    )?;
-    differs(&rt, &rules, 44, 2, NOWHERE, Gate::H { wire: 0 }, (0, 2))?;
-    differs(
-        &rt,
-        &rules,
-        45,
-        NOWHERE,
-        1,
-        Gate::Phase {
-            eighths: Eighths::S,
-            wire: 0,
-        },
-        (1, 3),
-    )?;
-    differs(
-        &rt,
-        &rules,
-        45,
-        0,
-        NOWHERE,
-        Gate::Phase {
-            eighths: Eighths::S,
-            wire: 1,
-        },
-        (2, 2),
-    )?;
-    differs(
-        &rt,
-        &rules,
-        47,
-        NOWHERE,
-        0,
-        Gate::Cx {
-            control: 0,
-            target: 1,
-        },
-        (1, 1),
-    )?;
-    differs(
-        &rt,
-        &rules,
-        50,
-        NOWHERE,
-        0,
-        Gate::Cx {
-            control: 2,
-            target: 1,
-        },
-        (2, 2),
-    )?;
-    differs(
-        &rt,
-        &rules,
-        50,
-        2,
-        NOWHERE,
-        Gate::Cx {
-            control: 1,
-            target: 0,
-        },
-        (1, 5),
-    )?;
-    differs(
-        &rt,
-        &rules,
-        51,
-        2,
-        NOWHERE,
-        Gate::Cx {
-            control: 2,
-            target: 1,
-        },
-        (1, 3),
-    )?;
-    differs(
-        &rt,
-        &rules,
-        52,
-        0,
-        NOWHERE,
-        Gate::Cx {
-            control: 1,
-            target: 0,
-        },
-        (1, 2),
-    )?;
+    for (wires, pattern, replacement, pair) in [
+        (2, "c01 c10", "", (1, 1)),
+        (1, "t0 t0", "t0", (1, 1)),
+        (1, "s0 z0", "T0", (1, 1)),
+        (1, "z0 s0", "", (1, 1)),
+        (1, "x0 x0 h0", "z0", (0, 0)),
+        (1, "h0 s0 x0", "S0", (0, 0)),
+        (1, "x0 s0 h0 t0", "S0 h0 T0", (0, 1)),
+        (1, "h0 s0 h0 z0", "S0 h0 t0", (0, 1)),
+        (1, "t0 h0 s0 h0", "S0 h0 S0", (1, 0)),
+        (1, "x0 S0 h0 s0", "s0 h0 z0", (0, 1)),
+        (1, "s0 h0 S0 x0", "z0 h0 s0", (1, 0)),
+        (1, "S0 h0 T0 h0", "h0 s0", (0, 0)),
+        (2, "x0 c01 h0", "c01 x1", (0, 2)),
+        (2, "z1 c01 z1", "c01 s0", (1, 3)),
+        (2, "s1 c01 z1", "c01 z0", (2, 2)),
+        (2, "h0 h1 c01 h1 h0", "c01", (1, 1)),
+        (3, "c01 c12 c01", "c21 c02", (2, 2)),
+        (3, "c01 c12 c10", "c12 c02", (1, 5)),
+        (3, "c12 c01 c21", "c01 c02", (1, 3)),
+        (2, "c10 c10 c01 c10", "c10 c01", (1, 2)),
+    ] {
+        differs(&rt, wires, pattern, replacement, pair)?;
+    }
     Ok(())
 }

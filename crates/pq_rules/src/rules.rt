@@ -3,11 +3,11 @@ ghost use Rattle.std.specs.Option.{option_copied};
 ghost use Rattle.pq_gate.specs.Kind.{kind_of, number_of};
 ghost use Rattle.pq_rules.specs.Kinds.{begins, numbers_starting, row_numbered};
 ghost use Rattle.pq_rules.specs.Row.{RowView, IsSound};
-ghost use Rattle.pq_rules.specs.Shapes.{shape_row};
+ghost use Rattle.pq_rules.specs.Shapes.{rule_row};
 ghost use Rattle.pq_rules.specs.Table.{builtin_rows};
 
 use crate::row::{RawRow, Row};
-use crate::table::{GATES, SHAPES, Shape};
+use crate::table::{BuiltinRule, builtin_rules};
 use pq_gate::{Gate, GateList, KINDS};
 use pq_limits::MAX_EXTRA_ROWS;
 use pq_list::{OutOfMemory, crosses_threads};
@@ -50,14 +50,13 @@ impl Model for Rules {
 
 impl Rules {
     /// The 52 built-in rows.
+    #[tactic(auto, using(crate::proofs::TableLaws::sound_rules, crate::proofs::TableLaws::count_rules))]
     pub fn builtin(alloc: Global) -> Result<Rules, OutOfMemory>
         ensures rows { IfOk result (λ rules. rules ≡ builtin_rows) }
         ensures count { IfOk result (λ rules. length rules ≡ BUILTIN_ROWS) }
     {
-        let mut rows = Vec::with_capacity(alloc, SHAPES.len())?;
-        for shape in &SHAPES {
-            rows.push_reserved(row_of(alloc, shape)?);
-        }
+        let rules = builtin_rules();
+        let rows = rows_of(alloc, &rules)?;
         Rules::of(alloc, rows)
     }
 
@@ -181,18 +180,31 @@ fn index_of(alloc: Global, rows: &[Row]) -> Result<Vec<Vec<u32>>, OutOfMemory>
     Ok(index)
 }
 
-// the row whose sides stand at the places of a shape
-fn row_of(alloc: Global, shape: &Shape) -> Result<Row, OutOfMemory>
-    requires sound { IsSound (shape_row GATES shape.now) }
-    requires inside { (shape.now.start ≤ shape.now.middle) × (shape.now.middle ≤ shape.now.end) × (shape.now.end ≤ length GATES) }
-    ensures { IfOk result (λ row. row ≡ shape_row GATES shape.now) }
+// the rows of rules of the table
+fn rows_of(alloc: Global, rules: &[BuiltinRule]) -> Result<Vec<Row>, OutOfMemory>
+    requires few { length rules.now ≤ MAX_ROWS }
+    requires sound { All (λ rule. IsSound (rule_row rule)) rules.now }
+    ensures rows { IfOk result (λ rows. rows.items ≡ map rule_row rules.now) }
+    ensures count { IfOk result (λ rows. vec_len rows ≡ length rules.now) }
 {
-    let pattern = Vec::from_slice(alloc, &GATES[shape.start..shape.middle])?;
-    let replacement = Vec::from_slice(alloc, &GATES[shape.middle..shape.end])?;
+    let mut rows = Vec::with_capacity(alloc, rules.len())?;
+    for rule in rules {
+        rows.push_reserved(row_of(alloc, rule)?);
+    }
+    Ok(rows)
+}
+
+// the row of a rule of the table
+fn row_of(alloc: Global, rule: &BuiltinRule) -> Result<Row, OutOfMemory>
+    requires { IsSound (rule_row rule.now) }
+    ensures { IfOk result (λ row. row ≡ rule_row rule.now) }
+{
+    let pattern = Vec::from_slice(alloc, rule.pattern)?;
+    let replacement = Vec::from_slice(alloc, rule.replacement)?;
     let raw = RawRow {
-        wires: shape.wires,
+        wires: rule.wires,
         pattern: GateList::of(pattern),
         replacement: GateList::of(replacement),
     };
-    Ok(Row::checked(raw, shape.phase))
+    Ok(Row::checked(raw, rule.phase))
 }

@@ -3,6 +3,7 @@ use Rattle.std.specs.Prelude.{ℕ, ◌-◌, List, [], ◌∷◌, ◌++◌, map, 
 use Rattle.std.specs.List.{join_with_byte}
 use Rattle.pq_gate.specs.declared.gate.Gate.{Gate}
 use Rattle.pq_gate.specs.declared.gate.Gate.TheVariants.{H, X, Phase, Cx}
+use Rattle.pq_gate.specs.Ports.{wires_of}
 use Rattle.pq_gate.specs.declared.gate.Eighths.{Eighths}
 use Rattle.pq_gate.specs.declared.gate.Eighths.TheVariants.{T, S, Z, Sdg, Tdg}
 use Rattle.pq_text.specs.Program.{RegisterView, TailView, Barrier, Measure, ProgramView}
@@ -42,16 +43,9 @@ gate_word (X wire) = codes "x"
 gate_word (Phase eighths wire) = phase_word eighths
 gate_word (Cx control target) = codes "cx"
 
--- the wires of its arguments, in order
-abbrev pub gate_arguments : Gate → List ℕ
-gate_arguments (H wire) = wire ∷ []
-gate_arguments (X wire) = wire ∷ []
-gate_arguments (Phase eighths wire) = wire ∷ []
-gate_arguments (Cx control target) = control ∷ target ∷ []
-
--- the line of a gate over the quantum registers
+-- the line of a gate over the quantum registers: its word and its wires
 abbrev pub gate_line : List RegisterView → Gate → List ℕ
-gate_line qregs gate = statement (gate_word gate) (map (place qregs) (gate_arguments gate))
+gate_line qregs gate = statement (gate_word gate) (map (place qregs) (wires_of gate))
 
 -- the line of an entry of the tail over the quantum and the classical registers
 abbrev pub tail_line : List RegisterView → List RegisterView → TailView → List ℕ

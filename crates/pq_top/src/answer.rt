@@ -13,7 +13,9 @@ use pq_command::{Settings, UsageFault, WordsError, read_words};
 use pq_io::{ByteList, ReadWhole, Sink, Source, read_whole, write_whole};
 use pq_limits::MAX_INPUT;
 use pq_read::{Options, ReadError};
+use pq_round::WorkGate;
 use std::alloc::{AllocError, Global};
+use std::thread::Threads;
 
 /// Why a text is refused.
 #[derive(Clone, Copy, Debug, PartialEq, Eq)]
@@ -53,11 +55,13 @@ impl From<AllocError> for Answer {
 
 /// Does what the words ask for: reads the text, where the command wants one, makes the output and writes it.
 #[tactic(auto, using(crate::proofs::Working::failed_means))]
-pub fn work<S: Source, K: Sink>(
+pub fn work<R: Threads + Sync, S: Source, K: Sink, G: WorkGate>(
+    rt: &R,
     alloc: Global,
     words: &[String],
     source: &mut S,
     sink: &mut K,
+    gate: &G,
 ) -> Answer
     ensures means { Means (map string_bytes words.now) (moved S.left S.faults source.old source.new)
         (moved K.held K.faults sink.old sink.new) result }
@@ -66,7 +70,7 @@ pub fn work<S: Source, K: Sink>(
     ensures untouched { AskToMake (map string_bytes words.now) → source.new ≡ source.old }
 {
     match read_words(alloc, words) {
-        Ok(settings) => match output_of(alloc, settings, source) {
+        Ok(settings) => match output_of(rt, alloc, settings, source, gate) {
             Ok(output) => written(sink, &output),
             Err(answer) => answer,
         },
@@ -88,7 +92,13 @@ fn written<K: Sink>(sink: &mut K, output: &Output) -> Answer
 }
 
 /// What a command makes, of the text that the source gives where it reads one.
-fn output_of<S: Source>(alloc: Global, settings: Settings, source: &mut S) -> Result<Output, Answer>
+fn output_of<R: Threads + Sync, S: Source, G: WorkGate>(
+    rt: &R,
+    alloc: Global,
+    settings: Settings,
+    source: &mut S,
+    gate: &G,
+) -> Result<Output, Answer>
     requires { IsInRange settings }
     ensures output { IfOk result (Gives settings (moved S.left S.faults source.old source.new)) }
     ensures fault { IfErr result (FailsFor settings (moved S.left S.faults source.old source.new)) }
@@ -97,11 +107,19 @@ fn output_of<S: Source>(alloc: Global, settings: Settings, source: &mut S) -> Re
     match settings {
         Settings::Opt {
             omega,
+            workers,
             drop_barriers,
-            ..
         } => {
             let text = source_text(alloc, source)?;
-            answered(optimised(alloc, text, Options { drop_barriers }, omega))
+            answered(optimised(
+                rt,
+                alloc,
+                text,
+                Options { drop_barriers },
+                omega,
+                workers,
+                gate,
+            ))
         },
         Settings::Check {
             omega,
@@ -120,12 +138,12 @@ fn output_of<S: Source>(alloc: Global, settings: Settings, source: &mut S) -> Re
         },
         Settings::Bench {
             omega,
+            workers,
             seed,
             qubits,
             gates,
-            ..
         } => {
-            let text = benched(alloc, omega, seed, qubits, gates)?;
+            let text = benched(rt, alloc, omega, workers, seed, qubits, gates, gate)?;
             Ok(Output { text, found: false })
         },
     }

@@ -25,6 +25,7 @@ use crate::notes::note;
 use pq_command::UsageFault;
 pub use pq_generate::generate;
 use pq_io::{Sink, Source};
+use pq_round::WorkGate;
 use std::alloc::Global;
 use std::thread::Threads;
 
@@ -39,13 +40,14 @@ use std::thread::Threads;
 /// The status is 0 where the command was done, 1 where `check` found a redex, 2 where the words have a fault, 3
 /// where the text is refused, 4 where the source failed, 5 where the sink failed, and 6 where memory ran out.
 #[tactic(auto, using(crate::proofs::Statuses::refused))]
-pub fn run_popqc<R: Threads + Sync, S: Source, K: Sink, N: Sink>(
-    _rt: &R,
+pub fn run_popqc<R: Threads + Sync, S: Source, K: Sink, N: Sink, G: WorkGate>(
+    rt: &R,
     alloc: Global,
     words: &[String],
     source: &mut S,
     sink: &mut K,
     notes: &mut N,
+    gate: &G,
 ) -> u8
     // What each status says.
     ensures done { result ≡ 0 → IsDone (map string_bytes words.now)
@@ -82,7 +84,7 @@ pub fn run_popqc<R: Threads + Sync, S: Source, K: Sink, N: Sink>(
     ensures sink_unchanged { ¬ (result ≡ 0) → ¬ (result ≡ 1) → ¬ (result ≡ 5) → sink.new ≡ sink.old }
     ensures notes_unchanged { (result ≡ 0) ⊎ (result ≡ 1) → notes.new ≡ notes.old }
 {
-    let answer = work(alloc, words, source, sink);
+    let answer = work(rt, alloc, words, source, sink, gate);
     note(notes, answer);
     status(answer)
 }

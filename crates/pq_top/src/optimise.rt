@@ -1,5 +1,5 @@
 ghost use Rattle.std.specs.Prelude.{◌≡◌, false, ◌+◌, ◌-◌, ◌*◌, ◌≤◌, length, IfOk, IfErr};
-ghost use Rattle.pq_limits.specs.Limits.{AreQubits, IsOmega};
+ghost use Rattle.pq_limits.specs.Limits.{AreQubits, AreWorkers, IsOmega};
 ghost use Rattle.pq_loop.specs.Gaps.{first_fingers};
 ghost use Rattle.pq_loop.specs.Opt.{Local};
 ghost use Rattle.pq_loop.specs.Counted.{IsEndOf};
@@ -16,28 +16,34 @@ use pq_io::{ByteList, OutOfMemory};
 use pq_limits::{MAX_GATES, MAX_INPUT};
 use pq_loop::{Finished, Loop};
 use pq_read::{Options, Program, ReadError, read_text};
+use pq_round::WorkGate;
 use pq_rules::Rules;
 use pq_write::{ReportNumbers, write_program, write_report, write_with_report};
 use std::alloc::Global;
+use std::thread::Threads;
 
 /// The canonical text of the program that a text stands for, with the gates that rounds leave of its own, and
-/// then the report. Omega is 2 to 1,024.
+/// then the report. Omega is 2 to 1,024, and 1 to 64 workers make the rounds.
 #[tactic(auto, using(crate::proofs::Optimising::formed_with))]
-pub fn optimised(
+pub fn optimised<R: Threads + Sync, G: WorkGate>(
+    rt: &R,
     alloc: Global,
     text: ByteList,
     options: Options,
     omega: u32,
+    workers: u32,
+    gate: &G,
 ) -> Result<Output, ReadError>
     requires within { length text.items ≤ MAX_INPUT }
     requires omega { IsOmega omega }
+    requires workers { AreWorkers workers }
     ensures found { IfOk result (λ output. IsOptText omega options text.items output.text.items × (output.found ≡ false)) }
     ensures refused { IfErr result (IsRefusedFor text.items options) }
 {
     let program = read_text(alloc, text.as_slice(), options)?;
     drop(text);
     let gates_in = program.gates.as_slice().len() as u64;
-    let finished = run_rounds(alloc, program.gates.as_slice(), omega)?;
+    let finished = run_rounds(rt, alloc, program.gates.as_slice(), omega, workers, gate)?;
     let report = report_on(gates_in, &finished);
     let program = Program {
         gates: finished.gates,
@@ -83,29 +89,41 @@ pub fn generated_text(
     write_program(alloc, &program)
 }
 
-/// The report on optimising the generated program.
-pub fn benched(
+/// The report on optimising the generated program, in rounds of so many workers.
+pub fn benched<R: Threads + Sync, G: WorkGate>(
+    rt: &R,
     alloc: Global,
     omega: u32,
+    workers: u32,
     seed: u64,
     qubits: u32,
     gates: u32,
+    gate: &G,
 ) -> Result<ByteList, OutOfMemory>
     requires omega { IsOmega omega }
+    requires workers { AreWorkers workers }
     requires qubits { AreQubits qubits }
     requires gates { gates ≤ MAX_GATES }
     ensures { IfOk result (λ text. IsBenchText omega seed qubits gates text.items) }
 {
     let program = generate(alloc, seed, qubits, gates)?;
     let gates_in = program.gates.as_slice().len() as u64;
-    let finished = run_rounds(alloc, program.gates.as_slice(), omega)?;
+    let finished = run_rounds(rt, alloc, program.gates.as_slice(), omega, workers, gate)?;
     let report = report_on(gates_in, &finished);
     write_report(alloc, &report)
 }
 
 // Makes rounds under the built-in rules, from the first fingers until there is no finger.
-fn run_rounds(alloc: Global, gates: &[Gate], omega: u32) -> Result<Finished, OutOfMemory>
+fn run_rounds<R: Threads + Sync, G: WorkGate>(
+    rt: &R,
+    alloc: Global,
+    gates: &[Gate],
+    omega: u32,
+    workers: u32,
+    gate: &G,
+) -> Result<Finished, OutOfMemory>
     requires omega { IsOmega omega }
+    requires workers { AreWorkers workers }
     requires few { length gates.now ≤ MAX_GATES }
     ensures opt { IfOk result (λ finished. IsEndOf builtin_rows omega gates.now finished) }
     ensures same { IfOk result (λ finished. KeepsMatrix gates.now finished.gates.items finished.phase) }
@@ -121,7 +139,7 @@ fn run_rounds(alloc: Global, gates: &[Gate], omega: u32) -> Result<Finished, Out
     let _count = rules.count();
     let mut looping = Loop::open(alloc, gates, omega, rules)?;
     'rounds: while !looping.is_done() {
-        let (next, _step) = looping.round(alloc)?;
+        let (next, _step) = looping.round(rt, alloc, workers, gate)?;
         looping = next;
     }
     looping.finish(alloc)

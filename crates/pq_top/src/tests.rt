@@ -2,6 +2,7 @@ ghost use Rattle.std.specs.Prelude.{◌<◌};
 
 use crate::{ArgumentFault, refuse_arguments, run_popqc};
 use pq_io::{ByteList, MemSink, MemSource, PlaceList};
+use pq_round::OpenGate;
 use std::alloc::{AllocError, Global};
 use std::process::Abort;
 use std::test::Fail;
@@ -13,6 +14,11 @@ const TWO_H: &str = "OPENQASM 2.0;\ninclude \"qelib1.inc\";\nqreg q[1];\nh q[0];
 
 const NO_H: &str = "OPENQASM 2.0;\ninclude \"qelib1.inc\";\nqreg q[1];\n\
     // gates 2 0\n// rounds 1\n// calls 1\n// first fingers 1\n// phase 0\n";
+
+const NO_GATE: &str = "OPENQASM 2.0;\ninclude \"qelib1.inc\";\nqreg q[1];\n";
+
+const NO_GATE_LEFT: &str = "OPENQASM 2.0;\ninclude \"qelib1.inc\";\nqreg q[1];\n\
+    // gates 0 0\n// rounds 0\n// calls 0\n// first fingers 0\n// phase 0\n";
 
 const FAR_H: &str = "OPENQASM 2.0;\ninclude \"qelib1.inc\";\nqreg q[4];\n\
     h q[0];\nt q[1];\ns q[1];\nt q[2];\ns q[2];\nt q[3];\ns q[3];\nh q[0];\n";
@@ -83,6 +89,7 @@ fn run(
         &mut source,
         &mut sink,
         &mut notes,
+        &OpenGate,
     );
     Ok(Outcome {
         status,
@@ -313,15 +320,40 @@ fn a_generated_program_is_written_or_reported_on(rt: HostRuntime) -> Result<(), 
     Ok(())
 }
 
+// Optimises a large generated program with so many workers.
+fn large(rt: &(impl AllocGlobal + Threads + Sync), workers: &str) -> Result<Outcome, AllocError> {
+    let words = [
+        "bench",
+        "--seed",
+        "7",
+        "--qubits",
+        "16",
+        "--gates",
+        "20000",
+        "--workers",
+        workers,
+    ];
+    run(rt, &words, "", WHOLE, WHOLE)
+}
+
 #[test]
 fn a_large_generated_program_has_one_report(rt: HostRuntime) -> Result<(), Fail> {
-    let words = ["bench", "--seed", "7", "--qubits", "16", "--gates", "20000"];
-    let first = run(&rt, &words, "", WHOLE, WHOLE)?;
-    let second = run(&rt, &words, "", WHOLE, WHOLE)?;
+    let first = large(&rt, "1")?;
     assert_eq!(&rt; first.status, 0);
-    assert_eq!(&rt; second.status, 0);
     assert!(&rt; first.sink.held().starts_with(b"// gates 20000 "));
-    assert!(&rt; first.sink.held() == second.sink.held());
+    for workers in ["4", "64"] {
+        let other = large(&rt, workers)?;
+        assert_eq!(&rt; other.status, 0, "{workers} workers");
+        assert!(&rt; other.sink.held() == first.sink.held(), "{workers} workers");
+    }
+    Ok(())
+}
+
+#[test]
+fn there_may_be_more_workers_than_jobs(rt: HostRuntime) -> Result<(), Fail> {
+    let words = ["opt", "--omega", "2", "--workers", "64"];
+    makes(&rt, &words, TWO_H, 0, NO_H)?;
+    makes(&rt, &words, NO_GATE, 0, NO_GATE_LEFT)?;
     Ok(())
 }
 

@@ -13,10 +13,11 @@ use Rattle.pq_gate.specs.declared.gate.Gate.{Gate}
 use Rattle.pq_gate.specs.declared.gate.Gate.TheVariants.{H, X, Phase, Cx}
 use Rattle.pq_gate.specs.declared.gate.Eighths.{Eighths}
 use Rattle.pq_gate.specs.declared.gate.Eighths.TheVariants.{T, S, Z, Sdg, Tdg}
+use Rattle.pq_gate.specs.Ports.{wires_of}
 use Rattle.pq_text.specs.Name.{IsNameByte, IsLawfulName}
 use Rattle.pq_text.specs.Program.{RegisterView, TailView, Barrier, Measure, ProgramView, places_of}
 use Rattle.pq_text.specs.WellFormed.{IsRegister, WellFormed}
-use Rattle.pq_text.specs.Print.{header, indexed, place, register_line, statement, phase_word, gate_word, gate_arguments, gate_line, tail_line, print}
+use Rattle.pq_text.specs.Print.{header, indexed, place, register_line, statement, phase_word, gate_word, gate_line, tail_line, print}
 use Rattle.pq_write.proofs.Shapes.{Shape, shape, shape_of, comma, semicolon, arrow, missing, header_shapes, include_shapes, indexed_shapes, place_shapes, register_shapes, joined_shapes, statement_shapes, gate_shapes, tail_shapes, program_shapes, position, LexedAt, Lexes}
 use Rattle.pq_write.proofs.LexingTokens.{IsWord, nothing, then_more, both, either, one_token, no_blank, space, comma_alone, left_bracket, right_bracket, arrow_alone, end_of_line, word_then, word_space, number_then}
 
@@ -145,7 +146,7 @@ registers_spelled (r ∷ rs) all limit =
 text_lexes : (p : ProgramView) → AllByRecursion IsSpelled p.qregs → AllByRecursion IsSpelled p.cregs → Lexes (print p) (program_shapes p)
 text_lexes p wires bits =
     let gates : Lexes (flat_map (gate_line p.qregs) p.gates) (flat_map (gate_shapes p.qregs) p.gates) =
-    lines_lex (gate_line p.qregs) (gate_shapes p.qregs) p.gates (λ g. statement_lexes (gate_word g) p.qregs (gate_arguments g) (gate_is_word g) wires) in
+    lines_lex (gate_line p.qregs) (gate_shapes p.qregs) p.gates (λ g. statement_lexes (gate_word g) p.qregs (wires_of g) (gate_is_word g) wires) in
     let tail : Lexes (flat_map (tail_line p.qregs p.cregs) p.tail) (flat_map (tail_shapes p.qregs p.cregs) p.tail) =
     lines_lex (tail_line p.qregs p.cregs) (tail_shapes p.qregs p.cregs) p.tail (tail_lexes p.qregs p.cregs wires bits) in
     both header _ (header_shapes ++ include_shapes) _ head

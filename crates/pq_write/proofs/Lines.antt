@@ -18,8 +18,9 @@ use Rattle.pq_lex.specs.Token.{TokenView}
 use Rattle.pq_gate.specs.declared.gate.Gate.{Gate}
 use Rattle.pq_gate.specs.declared.gate.Gate.TheVariants as gates
 use Rattle.pq_gate.specs.declared.gate.Eighths.TheVariants.{T, S, Z, Sdg, Tdg}
+use Rattle.pq_gate.specs.Ports.{wires_of}
 use Rattle.pq_text.specs.Program.{RegisterView, TailView, Barrier, Measure, ProgramView, places_of}
-use Rattle.pq_text.specs.Print.{gate_word, gate_arguments}
+use Rattle.pq_text.specs.Print.{gate_word}
 use Rattle.pq_text.specs.WellFormed.{IsRegister}
 use Rattle.pq_read.specs.declared.refusal.Kind.{Kind}
 use Rattle.pq_read.specs.declared.refusal.Kind.TheVariants.{Syntax, RepeatedName, NameTooLong, TooManyQubits, TooManyBits}
@@ -170,7 +171,7 @@ other_word (gates.Phase Tdg wire) = refl
 other_word (gates.Cx control target) = refl
 
 pub gate_is_line : (qregs : List RegisterView) (g : Gate) → IsLine (gate_shapes qregs g)
-gate_is_line qregs g = statement_line (gate_word g) qregs (gate_arguments g) (other_word g)
+gate_is_line qregs g = statement_line (gate_word g) qregs (wires_of g) (other_word g)
 
 pub tail_is_line : (qregs cregs : List RegisterView) (t : TailView) → IsLine (tail_shapes qregs cregs t)
 tail_is_line qregs cregs (Barrier wires) = statement_line (codes "barrier") qregs wires refl

@@ -5,8 +5,9 @@ use Rattle.pq_lex.specs.declared.token.Form.TheVariants.{Word, Number, Quoted, S
 use Rattle.pq_lex.specs.Token.{TokenView}
 use Rattle.pq_lex.specs.Lex.{Position, tokens}
 use Rattle.pq_gate.specs.declared.gate.Gate.{Gate}
+use Rattle.pq_gate.specs.Ports.{wires_of}
 use Rattle.pq_text.specs.Program.{RegisterView, TailView, Barrier, Measure, ProgramView}
-use Rattle.pq_text.specs.Print.{gate_word, gate_arguments}
+use Rattle.pq_text.specs.Print.{gate_word}
 
 -- a token without its place
 pub record Shape : Type 0 where
@@ -60,7 +61,7 @@ abbrev pub statement_shapes : List ℕ → List (List Shape) → List Shape
 statement_shapes word arguments = shape Word word ∷ joined_shapes arguments ++ semicolon ∷ []
 
 abbrev pub gate_shapes : List RegisterView → Gate → List Shape
-gate_shapes qregs gate = statement_shapes (gate_word gate) (map (place_shapes qregs) (gate_arguments gate))
+gate_shapes qregs gate = statement_shapes (gate_word gate) (map (place_shapes qregs) (wires_of gate))
 
 abbrev pub tail_shapes : List RegisterView → List RegisterView → TailView → List Shape
 tail_shapes qregs cregs (Barrier wires) = statement_shapes (codes "barrier") (map (place_shapes qregs) wires)

@@ -3,8 +3,9 @@
 ghost use Rattle.std.specs.Prelude.{◌≡◌, ◌^◌, ◌<◌, ◌≤◌, ◌∷◌, ◌++◌, length, map, All, codes};
 ghost use Rattle.std.specs.List.{flat_map, join_with_byte};
 ghost use Rattle.pq_gate.specs.Circuit.{IsOnWires, IsCircuit};
+ghost use Rattle.pq_gate.specs.Ports.{wires_of};
 ghost use Rattle.pq_text.specs.Program.{places_of};
-ghost use Rattle.pq_text.specs.Print.{gate_word, gate_arguments, gate_line, place, register_line, tail_line, print};
+ghost use Rattle.pq_text.specs.Print.{gate_word, gate_line, place, register_line, tail_line, print};
 ghost use Rattle.pq_text.specs.WellFormed.{IsTailEntry, WellFormed};
 ghost use Rattle.pq_read.specs.Environment.{register_view, item_view, view};
 
@@ -12,7 +13,7 @@ use crate::places::Places;
 use crate::program::HEADER;
 use crate::tail::first_and_rest;
 use itoa::Buffer;
-use pq_gate::{Eighths, Gate};
+use pq_gate::{Eighths, Gate, Wires};
 use pq_read::{Program, Register, TailItem};
 
 fn register_line_length(word: &[u8], register: &Register) -> usize
@@ -56,15 +57,13 @@ fn word_length(gate: Gate) -> usize
 fn arguments_length(wires: &Places, gate: Gate) -> usize
     requires { IsOnWires (places_of wires.now) gate }
     ensures exact { result
-        ≡ length (join_with_byte 44 (map (place wires.now) (gate_arguments gate))) }
+        ≡ length (join_with_byte 44 (map (place wires.now) (wires_of gate))) }
     ensures short { result < 2 ^ 40 }
 {
-    match gate {
-        Gate::H { wire } | Gate::X { wire } | Gate::Phase { wire, .. } => {
-            wires.place(wire as usize).len()
-        }
-        Gate::Cx { control, target } => {
-            wires.place(control as usize).len() + 1 + wires.place(target as usize).len()
+    match gate.wires() {
+        Wires::One(wire) => wires.place(wire as usize).len(),
+        Wires::Two(first, last) => {
+            wires.place(first as usize).len() + 1 + wires.place(last as usize).len()
         }
     }
 }

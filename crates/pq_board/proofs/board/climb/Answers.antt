@@ -1,4 +1,4 @@
-use Rattle.std.proofs.Common.{◌≡◌, ◌+◌, ◌<◌, ◌≤◌, length, sym, ap, ◌∙◌, arith}
+use Rattle.std.proofs.Common.{◌≤◌, ◌∙◌, arith}
 use Rattle.pq_board.specs.Law.{leaves}
 use Rattle.pq_board.proofs.Climbing.{climbs_on, climb_allowed, climb_inside}
 use Rattle.pq_board.proofs.board.climb.Goals as goal

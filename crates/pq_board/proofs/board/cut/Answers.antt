@@ -1,7 +1,4 @@
-use Rattle.std.proofs.Common.{◌≡◌, ◌<◌, ◌≤◌, sym, ap, ◌∙◌, subst, arith}
-use Rattle.atomic_table.specs.Table.{Splits}
-use Rattle.pq_board.specs.Steps.{unused, without_rights}
-use Rattle.pq_board.proofs.Allowed.{Keeps, split_allowed}
+use Rattle.pq_board.proofs.Allowed.{split_allowed}
 use Rattle.pq_board.proofs.board.cut.Goals as goal
 
 pub split_seat-requires : goal.split_seat-requires

@@ -1,4 +1,4 @@
-use Rattle.std.proofs.Common.{◌<◌, arith}
+use Rattle.std.proofs.Common.{arith}
 use Rattle.pq_board.specs.Law.{job}
 use Rattle.pq_board.proofs.Trials.{second_of}
 use Rattle.pq_board.proofs.tests.two_passes_take_turns.Goals as goal

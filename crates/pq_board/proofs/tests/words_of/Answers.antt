@@ -1,8 +1,7 @@
-use Rattle.std.proofs.Common.{◌≡◌, ℕ, ◌+◌, ◌<◌, Some, List, map, length, sym, ap, ◌∙◌, subst, arith}
+use Rattle.std.proofs.Common.{◌≡◌, ◌+◌, Some, List, map, length, ap, subst, arith}
 use Rattle.std.specs.Prelude.{Contains}
 use Rattle.pq_gate.specs.declared.gate.Gate.{Gate}
 use Rattle.pq_array.specs.Cells.{live_places}
-use Rattle.pq_array.specs.Counts.{Counts}
 use Rattle.pq_board.proofs.StepLaws.{leaves_counted}
 use Rattle.pq_board.proofs.Trials.{all_live}
 use Rattle.pq_board.proofs.tests.words_of.Goals as goal

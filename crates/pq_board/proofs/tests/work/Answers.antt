@@ -1,4 +1,4 @@
-use Rattle.std.proofs.Common.{◌+◌, ◌*◌, ◌<◌, ◌≤◌, length, ap, arith}
+use Rattle.std.proofs.Common.{◌<◌, length, ap, arith}
 use Rattle.pq_board.specs.declared.plan.Plan.{Plan}
 use Rattle.pq_board.proofs.Claiming.{Drawn, claimed_some}
 use Rattle.pq_board.proofs.Trials.{works_on}
@@ -13,13 +13,13 @@ few : (c : In-Some) → c.in-Some.ticket < 1000
 few c = omega (arith, (drawn c).early, ap (λ (p : Plan). length p.jobs) c.loop-ticket.invariant.belongs.plan, c.requires.few)
 
 pub overflow_mul-ticket : goal.overflow_mul-ticket
-overflow_mul-ticket c = omega (arith, few c)
+overflow_mul-ticket c = omega (arith, few (goal.at.overflow_mul-ticket c).In-Some)
 
 pub overflow_add-ticket : goal.overflow_add-ticket
-overflow_add-ticket c = omega (arith, few c)
+overflow_add-ticket c = omega (arith, few (goal.at.overflow_add-ticket c).In-Some)
 
 pub lower-requires-clause-held : goal.lower-requires-clause-held
-lower-requires-clause-held c = (drawn c).held
+lower-requires-clause-held c = (drawn (goal.at.lower-requires-clause-held c).In-Some).held
 
 pub overflow_add-next : goal.overflow_add-next
 overflow_add-next c = omega (arith, few (goal.at.overflow_add-next c).In-Some)

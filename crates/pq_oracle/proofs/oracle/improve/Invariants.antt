@@ -1,4 +1,5 @@
 use Rattle.std.proofs.Common.{◌≡◌, length}
+use Rattle.pq_match.specs.Seek.{AreTried}
 use Rattle.pq_oracle.proofs.Improving.{IsLed}
 use Rattle.pq_oracle.proofs.oracle.improve.Given as goal
 
@@ -6,6 +7,7 @@ use Rattle.pq_oracle.proofs.oracle.improve.Given as goal
 abbrev pub invariant-rewrites : goal.invariant-rewrites
 invariant-rewrites l = record {
   led : IsLed l.rules l.fn.seg.items l.seg.items l.outcome;
+  tried : AreTried l.rules l.seg.items l.seg.tried;
   room : l.seg.room ≡ l.fn.seg.room;
 }
 

@@ -1,5 +1,6 @@
-use Rattle.std.proofs.Common.{◌≡◌, ◌≤◌, length, map, vec_capacity}
+use Rattle.std.proofs.Common.{◌≡◌, ◌+◌, ◌≤◌, length, map, vec_len, vec_capacity}
 use Rattle.std.specs.List.{All}
+use Rattle.std.specs.Vec.Iter.{into_iter_items}
 use Rattle.pq_oracle.specs.Outcomes.{WorkedView}
 use Rattle.pq_round.specs.Crews.{IsOfItsJob}
 use Rattle.pq_round.specs.declared.crew.Task.{Task}
@@ -12,5 +13,5 @@ invariant-loop-task g l = record {
   ends : (goal.iterator-loop-task g).is_finite l.task-iterator;
   tickets : map (λ (worked : WorkedView). worked.ticket) l.results.items ≡ map (λ (task : Task). task.ticket) l.yielded;
   each : All (IsOfItsJob l.shop.array.now l.shop.jobs.now l.shop.rules.now) l.results.items;
-  room : length l.fn.tasks.items ≤ vec_capacity l.results;
+  room : vec_len l.results + length (into_iter_items l.task-iterator) ≤ vec_capacity l.results;
 }

@@ -4,7 +4,7 @@ use Rattle.pq_top.proofs.Optimising.{bench_text_by}
 use Rattle.pq_top.proofs.optimise.benched.Goals as goal
 
 pub returns : goal.returns
-returns c =
+returns g c =
     let program = c.in_ok-program.program in
     let finished = c.in_ok-finished.finished in
     let left = c.in_ok-finished.ensures in

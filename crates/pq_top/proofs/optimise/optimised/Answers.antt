@@ -3,7 +3,7 @@ use Rattle.pq_top.proofs.Optimising.{opt_text_by}
 use Rattle.pq_top.proofs.optimise.optimised.Goals as goal
 
 pub returns-clause-found : goal.returns-clause-found
-returns-clause-found c =
+returns-clause-found g c =
     let program = c.in_ok-program.program in
     let finished = c.in_ok-finished.finished in
     let left = c.in_ok-finished.ensures in (

@@ -4,8 +4,8 @@ use Rattle.pq_top.proofs.Leading.{IsOnItsWay}
 use Rattle.pq_top.proofs.optimise.run_rounds.Given as goal
 
 abbrev pub invariant-rounds : goal.invariant-rounds
-invariant-rounds l = IsOnItsWay builtin_rows l.omega l.gates l.looping
+invariant-rounds g l = IsOnItsWay builtin_rows l.omega l.gates l.looping
 
 -- each round lets the fingers and twice the gates fall
 abbrev pub decreases-rounds : goal.decreases-rounds
-decreases-rounds l = length l.looping.state.fingers + 2 * length l.looping.state.gates
+decreases-rounds g l = length l.looping.state.fingers + 2 * length l.looping.state.gates

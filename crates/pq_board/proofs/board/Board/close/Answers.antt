@@ -1,7 +1,7 @@
-use Rattle.std.proofs.Common.{◌≡◌, ℕ, List, ◌+◌, ◌-◌, ◌<◌, ◌≤◌, length, get_or, sym, ap, ◌∙◌, subst, arith}
+use Rattle.std.proofs.Common.{◌≡◌, ℕ, List, ◌+◌, ◌-◌, length, get_or, ap, ◌∙◌, subst, arith}
 use Rattle.std.specs.Mem.Slots.{slots_items}
 use Rattle.pq_board.specs.Law.{leaves, stake, late}
-use Rattle.pq_board.specs.Steps.{AreWhole, HoldAll, early}
+use Rattle.pq_board.specs.Steps.{AreWhole, early}
 use Rattle.pq_board.specs.declared.plan.Plan.{Plan}
 use Rattle.pq_board.specs.declared.plan.View.{View}
 use Rattle.pq_board.proofs.Closing.{Closes, closes}
@@ -23,15 +23,15 @@ known c =
     (closes c.self.inside.plan c.self.inside.table.shared.key c.pass.inside.seat.id v (slots_items c.close_with-last.result.words) (slots_items c.close_with-last.result.slots)
     c.self.invariant.0 belongs.plan (all_of c) ways c.close_with-last.ensures.values.2)
 
-pub overflow_sub-receipt : goal.overflow_sub-receipt
-overflow_sub-receipt c =
-    let now = (goal.at.overflow_sub-receipt c).After-put_words in
+-- no more tickets are late than were drawn
+pub receipt_of-receipt-requires-clause-few : goal.receipt_of-receipt-requires-clause-few
+receipt_of-receipt-requires-clause-few c =
+    let now = (goal.at.receipt_of-receipt-requires-clause-few c).After-put_words in
     let v : View = c.pass.inside.seat.me.0 in
     let plan : Plan = c.self.inside.plan in
-    let word : get_or c.as_slice-2.result.now 0 0 ≡ length v.tickets = ap (λ (w : List ℕ). get_or w 0 0) c.as_slice-2.ensures ∙ (known now).drawn in
     let all : v.rights + late plan v.tickets ≡ plan.passes = all_of now in
     let rights : c.pass.inside.rights ≡ v.rights = c.pass.invariant.0 in
-    omega (arith, c.from.ensures, early_late plan v.tickets)
+    omega (arith, c.from.ensures, (known now).drawn, early_late plan v.tickets)
 
 pub returns-clause-drawn : goal.returns-clause-drawn
 returns-clause-drawn c = rw (← c.pass.view_is) (known (goal.at.returns-clause-drawn c).After-put_words).drawn
@@ -54,10 +54,10 @@ returns-clause-receipt c =
     let now = (goal.at.returns-clause-receipt c).After-put_words in
     let v : View = c.pass.inside.seat.me.0 in
     let plan : Plan = c.self.inside.plan in
-    let word : get_or c.as_slice-2.result.now 0 0 ≡ length v.tickets = ap (λ (w : List ℕ). get_or w 0 0) c.as_slice-2.ensures ∙ (known now).drawn in
     let all : v.rights + late plan v.tickets ≡ plan.passes = all_of now in
     let rights : c.pass.inside.rights ≡ v.rights = c.pass.invariant.0 in
-    let claimed : get_or c.as_slice-2.result.now 0 0 - c.from.result ≡ early plan v.tickets = omega (arith, c.from.ensures, early_late plan v.tickets) in
+    let claimed : get_or c.put_words.new.words.items 0 0 - c.from.result ≡ early plan v.tickets = omega (arith, c.from.ensures, (known now).drawn, early_late plan v.tickets) in
     let opened : get_or c.as_slice.result.now 1 0 ≡ get_or plan.words.items 1 0 = ap (λ (w : List ℕ). get_or w 1 0) c.as_slice.ensures in
-    let closed : get_or c.as_slice-3.result.now 1 0 ≡ get_or c.put_words.new.words.items 1 0 = ap (λ (w : List ℕ). get_or w 1 0) c.as_slice-3.ensures in
-    rw (← c.self.view_is, ← c.pass.view_is) (λ i. record { jobs = c.count.ensures.count i; claimed = claimed i; opened = opened i; closed = closed i })
+    let closing : ℕ = get_or c.put_words.new.words.items 1 0 in
+    rw (← c.self.view_is, ← c.pass.view_is)
+    (c.receipt_of-receipt.ensures ∙ (λ i. record { jobs = length plan.jobs; claimed = claimed i; opened = opened i; closed = closing }))

@@ -1,11 +1,11 @@
-use Rattle.std.proofs.Common.{◌≡◌, ◌+◌, ◌<◌, ◌≤◌, ◌++◌, length, sym, ap, ◌∙◌, subst, arith}
+use Rattle.std.proofs.Common.{◌≡◌, ◌+◌, sym, ap, ◌∙◌, subst, arith}
 use Rattle.atomic_table.specs.Table.{Me}
 use Rattle.pq_board.specs.Law.{leaves, stake}
-use Rattle.pq_board.specs.Steps.{BelongsTo, with_both, AreWhole}
+use Rattle.pq_board.specs.Steps.{with_both, AreWhole}
 use Rattle.pq_board.specs.declared.plan.Plan.{Plan}
 use Rattle.pq_board.specs.declared.plan.View.{View}
 use Rattle.pq_board.proofs.Keeping.{joined_stake}
-use Rattle.pq_board.proofs.Allowed.{join_allowed, look_allowed, plan_words}
+use Rattle.pq_board.proofs.Allowed.{join_allowed, plan_words}
 use Rattle.pq_board.proofs.Whole.{whole_both}
 use Rattle.pq_board.proofs.board.Board.join.Goals as goal
 
@@ -22,30 +22,20 @@ join_seat-requires c =
           (inv.0 ∙ sym belongs.plan) (inv.0 ∙ sym too.plan),
     )
 
-pub load-requires : goal.load-requires
-load-requires c =
-    let belongs = rw (← c.self.view_is, ← c.into.view_is) at c.requires.belongs in
-    let inv = c.self.invariant in (
-      c.join_seat.ensures.0 ∙ belongs.here,
-      omega (arith, inv.1, plan_words c.self.inside.plan inv.3),
-      look_allowed c.self.inside.table.shared.key c.self.inside.table.shared.table_id.slots c.join_seat.new.seat.id c.join_seat.new.seat.me
-          (inv.0 ∙ (sym belongs.plan ∙ ap (λ m. m.0.plan) (sym c.join_seat.ensures.2))),
-    )
-
 pub invariant_of-into : goal.invariant_of-into
 invariant_of-into c =
     let belongs = rw (← c.self.view_is, ← c.into.view_is) at c.requires.belongs in
     let too = rw (← c.self.view_is, ← c.from.view_is) at c.requires.too in
     let v : View = c.into.inside.seat.me.0 in
     let w : View = c.from.inside.seat.me.0 in
-    let view : c.load.new.seat.me.0 ≡ with_both v w = c.load.ensures.2.0 ∙ ap (λ (m : Me (Unit {0}) View). m.0) c.join_seat.ensures.2 in
+    let view : c.look.new.seat.me.0 ≡ with_both v w = c.look.ensures.same ∙ ap (λ (m : Me (Unit {0}) View). m.0) c.join_seat.ensures.2 in
     let same : w.plan ≡ v.plan = too.plan ∙ sym belongs.plan in
     let whole : AreWhole (leaves v.plan) w.lowered = subst (λ (p : Plan). AreWhole (leaves p) w.lowered) same c.from.invariant.2 in
-    let rights : c.load.new.seat.me.0.rights ≡ v.rights + w.rights = ap (λ (u : View). u.rights) view in
+    let rights : c.look.new.seat.me.0.rights ≡ v.rights + w.rights = ap (λ (u : View). u.rights) view in
     let first : c.into.inside.rights ≡ v.rights = c.into.invariant.0 in
     let second : c.from.inside.rights ≡ w.rights = c.from.invariant.0 in (
       omega arith,
-      c.load.ensures.2.1 ∙ (ap (λ (m : Me (Unit {0}) View). m.1) c.join_seat.ensures.2 ∙ c.into.invariant.1),
+      c.look.ensures.none ∙ (ap (λ (m : Me (Unit {0}) View). m.1) c.join_seat.ensures.2 ∙ c.into.invariant.1),
       subst (λ (u : View). AreWhole (leaves u.plan) u.lowered) (sym view) (whole_both (leaves v.plan) v.lowered w.lowered c.into.invariant.2 whole),
     )
 
@@ -53,6 +43,6 @@ pub returns-clause-staked : goal.returns-clause-staked
 returns-clause-staked c =
     let v : View = c.into.inside.seat.me.0 in
     let w : View = c.from.inside.seat.me.0 in
-    let view : c.load.new.seat.me.0 ≡ with_both v w = c.load.ensures.2.0 ∙ ap (λ (m : Me (Unit {0}) View). m.0) c.join_seat.ensures.2 in
+    let view : c.look.new.seat.me.0 ≡ with_both v w = c.look.ensures.same ∙ ap (λ (m : Me (Unit {0}) View). m.0) c.join_seat.ensures.2 in
     let plan : Plan = c.self.inside.plan in
     rw (← c.self.view_is, ← c.into.view_is, ← c.from.view_is) (ap (λ (u : View). stake plan u) view ∙ joined_stake plan v w)

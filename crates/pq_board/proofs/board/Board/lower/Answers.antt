@@ -1,5 +1,5 @@
-use Rattle.std.proofs.Common.{◌≡◌, ℕ, List, ◌+◌, ◌/◌, ◌<◌, ◌≤◌, ◌++◌, [], ◌∷◌, length, sym, ap, ◌∙◌, subst, arith}
-use Rattle.pq_board.specs.Law.{leaves, job}
+use Rattle.std.proofs.Common.{◌≡◌, ℕ, List, ◌≤◌, length, sym, ap, ◌∙◌, subst, arith}
+use Rattle.pq_board.specs.Law.{leaves}
 use Rattle.pq_board.specs.Steps.{AreWhole, lowered_places, with_lowered, whole_way}
 use Rattle.pq_board.specs.declared.plan.Plan.{Plan}
 use Rattle.pq_board.specs.declared.plan.View.{View}

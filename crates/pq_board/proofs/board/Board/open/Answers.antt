@@ -1,8 +1,7 @@
-use Rattle.std.proofs.Common.{◌≡◌, ℕ, List, ◌≤◌, length, set, sym, ap, ◌∙◌, arith}
+use Rattle.std.proofs.Common.{ℕ, List, ◌≤◌, length, ap, ◌∙◌, arith}
 use Rattle.pq_limits.specs.declared.TheConstants.{MAX_JOBS}
 use Rattle.pq_board.specs.Law.{IsPlan}
 use Rattle.pq_board.specs.Ways.{live_leaves}
-use Rattle.pq_board.specs.declared.plan.Plan.{Plan}
 use Rattle.pq_board.proofs.Opening.{plan_of, opened_law, long_enough}
 use Rattle.pq_board.proofs.board.Board.open.Goals as goal
 use Rattle.pq_board.proofs.board.Board.open.Goals.{After-as_slice-2}

@@ -1,0 +1,11 @@
+use Rattle.std.proofs.Common.{sym, ap, ◌∙◌}
+use Rattle.std.specs.List.{position_or_len}
+use Rattle.std.proofs.lemmas.List.{take_rest}
+use Rattle.pq_lex.specs.Front.{is_outside_word}
+use Rattle.pq_lex.proofs.Direct.{word_there}
+use Rattle.pq_lex.proofs.front.word_front.Goals as goal
+
+pub returns-in-len1-up-clause-front : goal.returns-in-len1-up-clause-front
+returns-in-len1-up-clause-front c = λ some.
+    word_there c.args.text.now c.word_bytes.result c.in-len1-up.len_at_least (sym c.is_ascii_alphabetic.ensures.value ∙ c.if-is_ascii_alphabetic.true)
+    (c.word_bytes.ensures.place ∙ ap (position_or_len is_outside_word) (take_rest c.args.text.now 1))

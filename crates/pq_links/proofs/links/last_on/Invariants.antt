@@ -1,0 +1,10 @@
+use Rattle.std.proofs.Common.{◌+◌, ◌%◌}
+use Rattle.pq_links.proofs.Chains.{IsBack}
+use Rattle.pq_links.proofs.links.last_on.Given as goal
+
+abbrev pub invariant-back : goal.invariant-back
+invariant-back l = IsBack l.buckets l.bucket l.gates l.wire l.place
+
+-- places fall, and past the end it is over
+abbrev pub decreases-back : goal.decreases-back
+decreases-back l = (l.place + 1) % 4294967296

@@ -1,0 +1,4 @@
+pub use Rattle.pq_gate.specs.Commuting
+pub mod Wires
+pub mod Places
+pub mod Links

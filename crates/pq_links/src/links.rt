@@ -1,0 +1,187 @@
+ghost use Rattle.std.specs.Prelude.{◌≡◌, ℕ, ◌+◌, ◌%◌, ◌<◌, ◌≤◌, [], ◌∷◌, ◌++◌, Bool, true, false, length, slice_index, IfOk};
+ghost use Rattle.pq_gate.specs.Commuting.{Touches};
+ghost use Rattle.pq_links.specs.Wires.{wire_of};
+ghost use Rattle.pq_links.specs.Places.{gate_at};
+ghost use Rattle.pq_links.specs.Links.{side_at, IsNextOn, IsLastIn, IsLastOn, AreLinked, AreBefore, AreHeads};
+
+use crate::wires::wires_of;
+use pq_gate::Gate;
+use std::alloc::{AllocError, Global};
+use std::marker::Model;
+
+/// No place: it lies past the end of every list.
+pub const FAR: u32 = 4_294_967_295;
+
+/// A place for each of a gate's two wires. For a gate with a single wire both are the same.
+#[derive(Clone, Copy, Debug, PartialEq, Eq)]
+pub struct Sides {
+    pub first: u32,
+    pub second: u32,
+}
+
+/// The links of a list of gates: for each gate and each of its wires the next place on that wire. Gates are
+/// appended in constant expected time: wires go into buckets by their remainders, and each gate knows the
+/// last place before it in the bucket of each of its wires. Memory is taken once.
+#[derive(Drop)]
+pub struct Links {
+    next: Vec<Sides>,
+    before: Vec<Sides>,
+
+    // for each bucket the last place in it
+    heads: Vec<u32>,
+    asked: u32,
+}
+
+impl Model for Links {
+    ghost use Rattle.std.specs.Prelude.{◌≤◌, ◌<◌, vec_len, vec_capacity};
+    ghost use Rattle.pq_links.specs.Links.{LinksView};
+
+    ghost Value = { LinksView };
+
+    ghost view = { λ a. record { next = a.next.items; before = a.before.items; heads = a.heads.items; room = a.asked } };
+
+    ghost invariant = { λ a. (a.asked ≤ vec_capacity a.next) × (a.asked ≤ vec_capacity a.before) × (0 < vec_len a.heads) × (vec_len a.heads ≤ 4294967295) };
+}
+
+impl Links {
+    /// The links of no gate, with room for those of `room` gates. The room is taken here, once.
+    pub fn with_room(alloc: Global, room: u32) -> Result<Links, AllocError>
+        ensures linked { IfOk result (λ made. AreLinked [] made) }
+        ensures room { IfOk result (λ made. made.room ≡ room) }
+    {
+        let next = Vec::with_capacity(alloc, room as usize)?;
+        let before = Vec::with_capacity(alloc, room as usize)?;
+        let heads = Vec::from_elem(alloc, FAR, room.max(1) as usize)?;
+        Ok(Links {
+            next,
+            before,
+            heads,
+            asked: room,
+        })
+    }
+
+    /// Leaves the links of no gate.
+    pub fn clear(&mut self)
+        ensures linked { AreLinked [] self.new }
+        ensures room { self.new.room ≡ self.old.room }
+    {
+        self.next.clear();
+        self.before.clear();
+        self.heads.as_mut_slice().fill(FAR);
+    }
+
+    /// Appends a gate.
+    pub fn push(&mut self, gates: &[Gate], gate: Gate)
+        requires linked { AreLinked gates.now self.old }
+        requires room { length gates.now < self.old.room }
+        ensures linked { AreLinked (gates.now ++ gate ∷ []) self.new }
+        ensures room { self.new.room ≡ self.old.room }
+    {
+        let place = gates.len() as u32;
+        let (first, second) = wires_of(gate);
+        let before = self.before.as_slice();
+        let heads = self.heads.as_slice();
+        let last_first = last_on(gates, before, heads, first);
+        let last_second = last_on(gates, before, heads, second);
+        let next = self.next.as_mut_slice();
+        lead(gates, next, last_first, first, place);
+        lead(gates, next, last_second, second, place);
+        self.next.push_reserved(Sides {
+            first: FAR,
+            second: FAR,
+        });
+        let buckets = heads.len() as u32;
+        let one = (first % buckets) as usize;
+        let other = (second % buckets) as usize;
+        self.before.push_reserved(Sides {
+            first: heads[one],
+            second: heads[other],
+        });
+        self.heads[one] = place;
+        self.heads[other] = place;
+    }
+
+    /// Becomes the links of these gates.
+    pub fn build(&mut self, gates: &[Gate])
+        requires { length gates.now ≤ self.old.room }
+        ensures linked { AreLinked gates.now self.new }
+        ensures room { self.new.room ≡ self.old.room }
+    {
+        self.clear();
+        for place in 0..gates.len() {
+            self.push(&gates[..place], gates[place]);
+        }
+    }
+
+    /// The least place behind this one whose gate uses the wire, or `FAR` where there is none. The gate at the
+    /// place has to use the wire.
+    pub fn next_on(&self, gates: &[Gate], place: u32, wire: u32) -> u32
+        requires linked { AreLinked gates.now self.now }
+        requires place { place < length gates.now }
+        ensures ahead { place + 1 ≤ result }
+        ensures next { Touches (gate_at gates.now place) wire → IsNextOn gates.now wire (place + 1) result }
+    {
+        let (first, _second) = wires_of(gates[place as usize]);
+        let sides = self.next(gates, place);
+        if first == wire {
+            sides.first
+        } else {
+            sides.second
+        }
+    }
+
+    /// For each wire of the gate at the place the least later place whose gate uses it, or `FAR` where there is
+    /// none.
+    pub fn next(&self, gates: &[Gate], place: u32) -> Sides
+        requires linked { AreLinked gates.now self.now }
+        requires place { place < length gates.now }
+        ensures first { IsNextOn gates.now (wire_of false (gate_at gates.now place)) (place + 1) result.first }
+        ensures second { IsNextOn gates.now (wire_of true (gate_at gates.now place)) (place + 1) result.second }
+    {
+        self.next[place as usize]
+    }
+}
+
+// the last place on the wire, or FAR where there is none
+fn last_on(gates: &[Gate], before: &[Sides], heads: &[u32], wire: u32) -> u32
+    requires few { length gates.now < FAR }
+    requires some { 0 < length heads.now }
+    requires buckets { length heads.now ≤ FAR }
+    requires befores { length before.now ≡ length gates.now }
+    requires before { AreBefore (length heads.now) gates.now before.now }
+    requires heads { AreHeads gates.now heads.now }
+    ensures { IsLastOn gates.now wire (length gates.now) result }
+{
+    let buckets = heads.len() as u32;
+    let bucket = wire % buckets;
+    let mut place = heads[bucket as usize];
+    'back: while (place as usize) < gates.len() {
+        let (first, second) = wires_of(gates[place as usize]);
+        if first == wire || second == wire {
+            return place;
+        }
+        let earlier = before[place as usize];
+        place = if first % buckets == bucket {
+            earlier.first
+        } else {
+            earlier.second
+        };
+    }
+    FAR
+}
+
+// leads on from the last gate on the wire to this place
+fn lead(gates: &[Gate], next: &mut [Sides], last: u32, wire: u32, place: u32)
+    requires { length next.old ≡ length gates.now }
+    ensures led { (one : Bool) → last < length gates.now → wire_of one (gate_at gates.now last) ≡ wire → side_at one next.new last ≡ place }
+    ensures others { (p : ℕ) (one : Bool) → (p ≡ last → wire_of one (gate_at gates.now p) ≡ wire → ⊥) → side_at one next.new p ≡ side_at one next.old p }
+{
+    if (last as usize) < gates.len() {
+        let (first, second) = wires_of(gates[last as usize]);
+        let sides = next[last as usize];
+        next[last as usize] = Sides {
+            first: if first == wire { place } else { sides.first },
+            second: if second == wire { place } else { sides.second },
+        };
+    }
+}
