@@ -1,5 +1,6 @@
 ghost use Rattle.std.specs.Prelude.{◌≡◌, ℕ, ◌+◌, ◌-◌, ◌/◌, ◌<◌, ◌≤◌, [], ◌∷◌, ◌++◌, length, slice_index, slice_index_or, slice_set, All, Contains, IfOk, IfErr};
 ghost use Rattle.std.specs.List.{concat};
+ghost use Rattle.std.specs.List.Sorted.{IsStrictlyIncreasing};
 ghost use Rattle.pq_limits.specs.Limits.{AreWorkers};
 ghost use Rattle.pq_array.specs.Counts.{Counts};
 ghost use Rattle.pq_board.specs.Sums.{weigh, times};
@@ -100,10 +101,12 @@ impl Board {
         self.plan.jobs.count()
     }
 
-    /// The places of the job of a ticket.
+    /// The places of the job of a ticket. They rise, as those of all jobs do when they are read in order.
     pub fn places(&self, ticket: u64) -> &[u64]
         requires { ticket < length self.now.plan.jobs }
-        ensures { result.now ≡ job self.now.plan ticket }
+        ensures places { result.now ≡ job self.now.plan ticket }
+        ensures rising { IsStrictlyIncreasing result.now }
+        ensures all_rising { IsStrictlyIncreasing (concat self.now.plan.jobs) }
     {
         self.plan.jobs.places(ticket)
     }

@@ -24,7 +24,7 @@ use Rattle.pq_round.specs.Results.{AreResults}
 use Rattle.pq_method.specs.declared.step.Step.{Step}
 use Rattle.pq_loop.specs.declared.segments.Segments.{Segments}
 use Rattle.pq_method.specs.Round.{Round, Work, IsWorkOf, cut_of, joined}
-use Rattle.pq_loop.specs.Segments.{stands, state_of, AreSegments, AreOfFingers, works_in, AreNumbersOf, AreMoved}
+use Rattle.pq_loop.specs.Segments.{stands, state_of, AreSegments, AreOfFingers, told, works_in, AreNumbersOf, AreMoved}
 use Rattle.pq_loop.proofs.Standing.{standing_rises, standing_inside}
 use Rattle.pq_loop.proofs.Gathered.{works_fit, works_gaps, works_count, results_count}
 
@@ -53,6 +53,21 @@ found_of {old} {places} {segments} {rules} {results} {list} {cuts} {made} stand 
   got = subst (AreResults old segments.jobs rules) (sym same) got;
   at_places = subst (AllZip (IsAtPlaces (rank old) (stands old) (length (live old)) places) (map cut_of (works_in old segments results))) (sym shown) (at places of);
 }
+
+-- there is one result for each segment
+pub count_found : {old : List (Option Gate)} {segments : Segments} {rules : List RowView} {results list : List WorkedView} →
+    AreSegments old segments → results ≡ list → AreResults old segments.jobs rules list → length results ≡ length segments.gaps.items
+count_found {old} {segments} {rules} {results} {list} are same got = ap (λ (l : List WorkedView). length l) same ∙ sym (results_count old segments rules list are got)
+
+-- the same with cuts that are ends with the words of the results
+pub found_told : {old : List (Option Gate)} {places : List ℕ} {segments : Segments} {rules : List RowView} {results list : List WorkedView} {ends ends_now cuts made : List Cut} →
+    All (λ place. IsTrue (stands old place)) places → IsStrictlyIncreasing places → AreSegments old segments → AreOfFingers old places segments →
+    results ≡ list → AreResults old segments.jobs rules list → ends_now ≡ ends → cuts ≡ made → made ≡ told ends_now results →
+    ((any : List ℕ) (others : List WorkedView) → AreOfFingers old any segments → length others ≡ length segments.gaps.items →
+    AllZip (IsAtPlaces (rank old) (stands old) (length (live old)) any) (map cut_of (works_in old segments others)) (told ends others)) →
+    IsFound old places segments rules results cuts
+found_told {old} {places} {segments} {rules} {results} {list} {ends} {ends_now} stand rising are of same got ends_is shown made_is at =
+    found_of stand rising are of same got (shown ∙ (made_is ∙ ap (λ (e : List Cut). told e results) ends_is)) (λ any of_any. at any results of_any (count_found are same got))
 
 -- the fingers of the cuts of works are those of the works
 cut_fingers : (works : List Work) → map (λ (cut : GapCut). cut.finger) (map cut_of works) ≡ map (λ (work : Work). work.finger) works

@@ -15,3 +15,4 @@ pub mod Cutting
 pub mod Numbering
 pub mod Moving
 pub mod Collecting
+pub mod Rejoining

@@ -4,6 +4,7 @@ use Rattle.pq_gate.specs.declared.gate.Gate.{Gate}
 use Rattle.pq_array.specs.Cells.{live, rank, IsLive}
 use Rattle.pq_gaps.specs.Gaps.{GapCut, segment_from, segment_to, selected, ascending}
 use Rattle.pq_oracle.specs.Outcomes.{WorkedView}
+use Rattle.pq_finger.specs.declared.cut.Cut.{Cut}
 use Rattle.pq_loop.specs.declared.segments.Segments.{Segments}
 use Rattle.pq_method.specs.declared.step.Step.{Step}
 use Rattle.pq_method.specs.Round.{State, Work, improved_of, phases_of}
@@ -61,6 +62,16 @@ pub record IsCutHere (live omega gap : ℕ) (improved : Bool) (cut : GapCut) : T
   pub from : cut.from ≡ segment_from omega gap
   pub to : cut.to ≡ segment_to omega live gap
   pub improved_is : cut.improved ≡ improved
+
+-- the cut, with this word on whether its segment was improved
+abbrev pub flagged : Bool → Cut → Cut
+flagged improved cut = record { finger = cut.finger; improved = improved; from = cut.from; to = cut.to; at_start = cut.at_start; at_end = cut.at_end }
+
+-- each of the cuts, with the word of a result
+abbrev pub told : List Cut → List WorkedView → List Cut
+told [] results = []
+told (cut ∷ cuts) [] = []
+told (cut ∷ cuts) (worked ∷ results) = flagged worked.answer.improved cut ∷ told cuts results
 
 -- what a round did at the segments, where their gates were worked with these results
 abbrev pub works_in : List (Option Gate) → Segments → List WorkedView → List Work

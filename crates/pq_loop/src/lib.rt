@@ -4,6 +4,7 @@
 
 mod looping;
 mod one_round;
+mod over_board;
 mod putting;
 mod segments;
 #[cfg(test)]

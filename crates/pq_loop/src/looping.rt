@@ -148,7 +148,7 @@ impl Loop {
         ensures some { IfOk result (λ made. 0 < made.1.selected) }
     {
         let Loop {
-            mut array,
+            array,
             fingers,
             rules,
             omega,
@@ -157,8 +157,8 @@ impl Loop {
             phase,
             first_fingers,
         } = self;
-        let (fingers, step) = work_round(
-            rt, alloc, &mut array, &fingers, &rules, omega, workers, gate,
+        let (array, fingers, step) = work_round(
+            rt, alloc, array, &fingers, &rules, omega, workers, gate,
         )?;
         let after = Loop {
             array,

@@ -6,14 +6,15 @@ ghost use Rattle.pq_match.specs.Row.{IsSound};
 ghost use Rattle.pq_method.specs.Round.{Round};
 ghost use Rattle.pq_loop.specs.Segments.{stands, state_of, works_of, AreNumbersOf, AreMoved};
 
-use crate::segments::segments_of;
+use crate::over_board::work_over_board;
+use crate::segments::{Segments, cuts_of, segments_of};
 use pq_array::GateArray;
 use pq_finger::Fingers;
 use pq_limits::MAX_GATES;
 use pq_list::OutOfMemory;
 use pq_method::Step;
 use pq_oracle::Worked;
-use pq_round::{WorkGate, run_round};
+use pq_round::WorkGate;
 use pq_rules::Rules;
 use std::alloc::Global;
 use std::thread::Threads;
@@ -24,43 +25,51 @@ use std::thread::Threads;
 pub fn work_round<R: Threads + Sync, G: WorkGate>(
     rt: &R,
     alloc: Global,
-    array: &mut GateArray,
+    array: GateArray,
     fingers: &Fingers,
     rules: &Rules,
     omega: u32,
     workers: u32,
     gate: &G,
-) -> Result<(Fingers, Step), OutOfMemory>
+) -> Result<(GateArray, Fingers, Step), OutOfMemory>
     requires omega { IsOmega omega }
     requires workers { AreWorkers workers }
-    requires few { length array.old ≤ MAX_GATES }
-    requires stand { All (λ place. IsTrue (stands array.old place)) fingers.now }
-    ensures round { IfOk result (λ made. Round rules.now omega (state_of array.old fingers.now) (state_of array.new made.0) made.1) }
-    ensures stand { IfOk result (λ made. All (λ place. IsTrue (stands array.new place)) made.0) }
-    ensures size { length array.new ≡ length array.old }
+    requires few { length array ≤ MAX_GATES }
+    requires stand { All (λ place. IsTrue (stands array place)) fingers.now }
+    ensures round { IfOk result (λ made. Round rules.now omega (state_of array fingers.now) (state_of made.0 made.1) made.2) }
+    ensures stand { IfOk result (λ made. All (λ place. IsTrue (stands made.0 place)) made.1) }
+    ensures size { IfOk result (λ made. length made.0 ≡ length array) }
 {
     // the fingers are in order, and the rows are sound
     let _places = fingers.places();
     let _rows = rules.count();
-    let segments = segments_of(alloc, array, fingers, omega)?;
-    let worked = run_round(
-        rt,
-        alloc,
-        array,
-        &segments.jobs,
-        rules,
-        omega,
-        workers,
-        gate,
+    let segments = segments_of(alloc, &array, fingers, omega)?;
+    let ends = segments.ends(alloc, &array)?;
+    let before = array.live();
+    let Segments {
+        omega: reach,
+        fingers: indexes,
+        gaps,
+        jobs,
+    } = segments;
+    let (mut cells, words) = array.split_words();
+    let (worked, closed) = work_over_board(
+        rt, alloc, &cells, words, jobs, rules, omega, workers, gate,
     )?;
     let results = worked.as_slice();
-    let cuts = segments.cuts(alloc, array, results)?;
+    let cuts = cuts_of(alloc, ends.as_slice(), results)?;
     let settled = fingers.settle(alloc, cuts.as_slice())?;
-    let before = array.live();
-    segments.put(array, results);
+    let segments = Segments {
+        omega: reach,
+        fingers: indexes,
+        gaps,
+        jobs: closed.jobs,
+    };
+    segments.put(&mut cells, results);
+    let array = GateArray::rejoin(cells, closed.words);
     let step = step_of(results, before - array.live());
-    let fingers = moved_on(alloc, array, settled)?;
-    Ok((fingers, step))
+    let fingers = moved_on(alloc, &array, settled)?;
+    Ok((array, fingers, step))
 }
 
 /// The numbers of a round with these results, which removed so many gates.

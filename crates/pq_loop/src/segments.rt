@@ -1,12 +1,13 @@
-ghost use Rattle.std.specs.Prelude.{◌≡◌, ◌+◌, ◌*◌, ◌<◌, ◌≤◌, ℕ, List, All, AllPairs, IfOk, IsTrue, length, map, slice_index, vec_capacity};
+ghost use Rattle.std.specs.Prelude.{◌≡◌, ◌+◌, ◌*◌, ◌<◌, ◌≤◌, ℕ, Bool, List, All, AllPairs, IfOk, IsTrue, length, map, slice_index, vec_capacity};
 ghost use Rattle.std.specs.List.Sorted.{IsStrictlyIncreasing};
 ghost use Rattle.std.specs.List.{AllZip};
 ghost use Rattle.pq_array.specs.Cells.{live, rank, IsLive};
 ghost use Rattle.pq_gaps.specs.Gaps.{GapCut, segment_from, segment_to};
 ghost use Rattle.pq_finger.specs.Ranks.{IsAtPlaces};
 ghost use Rattle.pq_limits.specs.Limits.{IsOmega};
+ghost use Rattle.pq_oracle.specs.Outcomes.{WorkedView};
 ghost use Rattle.pq_method.specs.Round.{cut_of};
-ghost use Rattle.pq_loop.specs.Segments.{stands, AreOfRun, AreJobs, AreSegments, AreOfFingers, IsCutHere, works_in};
+ghost use Rattle.pq_loop.specs.Segments.{stands, AreOfRun, AreJobs, AreSegments, AreOfFingers, IsCutHere, flagged, told, works_in};
 
 use pq_array::GateArray;
 use pq_board::Jobs;
@@ -160,19 +161,19 @@ fn live_from(array: &GateArray, place: u64) -> u64
     array.next_live(place).unwrap()
 }
 
-/// What the round did at a finger of this index and gap.
-fn cut_at(array: &GateArray, finger: u64, gap: u64, omega: u32, improved: bool) -> Cut
+/// Where the segment of a finger of this index and gap begins and ends, as if it weren't improved.
+fn cut_at(array: &GateArray, finger: u64, gap: u64, omega: u32) -> Cut
     requires gap { gap ≤ length (live array.now) }
     requires few { length array.now ≤ MAX_GATES }
-    ensures { (places : List ℕ) (gaps : GapCut) → IsCutHere (length (live array.now)) omega gap improved gaps →
+    ensures { (improved : Bool) (places : List ℕ) (gaps : GapCut) → IsCutHere (length (live array.now)) omega gap improved gaps →
         finger < length places → rank array.now (slice_index places finger) ≡ gap →
-        IsAtPlaces (rank array.now) (stands array.now) (length (live array.now)) places gaps result }
+        IsAtPlaces (rank array.now) (stands array.now) (length (live array.now)) places gaps (flagged improved result) }
 {
     let live = array.live();
     let (from, to) = segment(gap, live, omega);
     Cut {
         finger,
-        improved,
+        improved: false,
         from: place_of(array, from),
         to: place_of(array, to),
         at_start: from == 0,
@@ -181,32 +182,49 @@ fn cut_at(array: &GateArray, finger: u64, gap: u64, omega: u32, improved: bool) 
 }
 
 impl Segments {
-    /// What the round did at each segment, told at places. The array is the one before the round.
-    pub fn cuts(
-        &self,
-        alloc: Global,
-        array: &GateArray,
-        results: &[Worked],
-    ) -> Result<Vec<Cut>, OutOfMemory>
+    /// Where each segment begins and ends, told at places. The array is the one before the round. With the words of the
+    /// round's results these are what the round did at each.
+    pub fn ends(&self, alloc: Global, array: &GateArray) -> Result<Vec<Cut>, OutOfMemory>
         requires segments { AreSegments array.now self.now }
         requires fingers { length self.now.fingers.items ≡ length self.now.gaps.items }
-        requires results { length results.now ≡ length self.now.gaps.items }
         requires few { length array.now ≤ MAX_GATES }
-        ensures { IfOk result (λ cuts. (places : List ℕ) → AreOfFingers array.now places self.now →
+        ensures count { IfOk result (λ ends. length ends.items ≡ length self.now.gaps.items) }
+        ensures at_places { IfOk result (λ ends. (places : List ℕ) (results : List WorkedView) → AreOfFingers array.now places self.now →
+            length results ≡ length self.now.gaps.items →
             AllZip (IsAtPlaces (rank array.now) (stands array.now) (length (live array.now)) places)
-            (map cut_of (works_in array.now self.now results.now)) cuts.items) }
+            (map cut_of (works_in array.now self.now results)) (told ends.items results)) }
     {
-        let mut cuts = Vec::with_capacity(alloc, results.len())?;
-        for (number, worked) in results.iter().enumerate() {
+        let mut ends = Vec::with_capacity(alloc, self.gaps.len())?;
+        for number in 0..self.gaps.len() {
             let finger = self.fingers.as_slice()[number];
-            cuts.push_reserved(cut_at(
-                array,
-                finger,
-                self.gaps[number],
-                self.omega,
-                worked.improved(),
-            ));
+            ends.push_reserved(cut_at(array, finger, self.gaps[number], self.omega));
         }
-        Ok(cuts)
+        Ok(ends)
+    }
+}
+
+/// The cuts, each with the word of its result.
+pub fn cuts_of(alloc: Global, ends: &[Cut], results: &[Worked]) -> Result<Vec<Cut>, OutOfMemory>
+    requires { length ends.now ≡ length results.now }
+    ensures { IfOk result (λ cuts. cuts.items ≡ told ends.now results.now) }
+{
+    let mut cuts = Vec::with_capacity(alloc, results.len())?;
+    for (number, worked) in results.iter().enumerate() {
+        cuts.push_reserved(cut_with(&ends[number], worked.improved()));
+    }
+    Ok(cuts)
+}
+
+/// The cut, with this word on whether its segment was improved.
+fn cut_with(cut: &Cut, improved: bool) -> Cut
+    ensures { result ≡ flagged improved cut.now }
+{
+    Cut {
+        finger: cut.finger,
+        improved,
+        from: cut.from,
+        to: cut.to,
+        at_start: cut.at_start,
+        at_end: cut.at_end,
     }
 }

@@ -1,3 +1,5 @@
 pub mod Gathering
 pub mod Sharing
 pub mod Crewing
+pub mod Working
+pub mod Surveyed

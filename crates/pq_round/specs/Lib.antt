@@ -1,4 +1,6 @@
 pub use Rattle.pq_array.specs.Cells
+pub use Rattle.pq_board.specs.Law
+pub use Rattle.pq_board.specs.Steps
 pub use Rattle.pq_oracle.specs.Ora
 pub use Rattle.pq_oracle.specs.Outcomes
 pub mod Results
@@ -6,3 +8,4 @@ pub mod Results
 pub mod Desks
 pub mod Shares
 pub mod Crews
+pub mod Workers

@@ -1,9 +1,9 @@
 ghost use Rattle.std.specs.Prelude.{◌≡◌, ◌≤◌, length, IfOk};
 ghost use Rattle.pq_limits.specs.declared.TheConstants.{MAX_SEGMENT};
 ghost use Rattle.pq_round.specs.Results.{IsResultOf};
-ghost use Rattle.pq_round.specs.Desks.{IsFreeFor};
+ghost use Rattle.pq_round.specs.Desks.{IsFreeFor, HasRoomFor};
 
-use pq_array::GateArray;
+use pq_array::{Cells, GateArray};
 use pq_gate::GateList;
 use pq_list::OutOfMemory;
 use pq_match::Seg;
@@ -46,6 +46,26 @@ impl Desk {
         let Desk { mut input, mut seg } = self;
         for place in places {
             if let Some(gate) = array.gate_at(*place) {
+                input.push_kept(gate);
+                seg.push(gate);
+            }
+        }
+        Worked::of(rules, ticket, input, seg)
+    }
+    /// Gives the gates at these places to the oracle, under this ticket. It takes no memory.
+    pub fn work_cells<'r>(
+        self,
+        cells: &Cells,
+        places: &[u64],
+        rules: &'r Rules,
+        ticket: u64,
+    ) -> Worked<'r>
+        requires { HasRoomFor (length places.now) self }
+        ensures { IsResultOf cells.now places.now rules.entry.now ticket result }
+    {
+        let Desk { mut input, mut seg } = self;
+        for place in places {
+            if let Some(gate) = cells.gate_at(*place) {
                 input.push_kept(gate);
                 seg.push(gate);
             }

@@ -4,10 +4,13 @@
 mod crew;
 mod desk;
 mod gate;
+mod rounds;
 mod run;
 mod share;
 #[cfg(test)]
 mod tests;
+mod workers;
 
 pub use gate::{OpenGate, WorkGate};
-pub use run::run_round;
+pub use rounds::{Round, run_round};
+pub use run::run_round as run_shares;

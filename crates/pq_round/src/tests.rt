@@ -1,7 +1,7 @@
 ghost use Rattle.std.specs.Prelude.{◌≤◌};
 ghost use Rattle.pq_limits.specs.Limits.{AreWorkers};
 
-use crate::{OpenGate, WorkGate, run_round};
+use crate::{OpenGate, WorkGate, run_shares as run_round};
 use pq_array::GateArray;
 use pq_board::Jobs;
 use pq_gate::Gate;

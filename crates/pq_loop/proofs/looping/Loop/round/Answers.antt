@@ -6,21 +6,21 @@ pub overflow_add-after-2 : goal.overflow_add-after-2
 overflow_add-after-2 g c =
     omega (
       arith,
-      (kept_of_view c.self.invariant c.self.view_is c.requires.going c.in_ok-fingers.ensures.round c.in_ok-fingers.ensures.stand c.in_ok-fingers.ensures.size).bound,
+      (kept_of_view c.self.invariant c.self.view_is c.requires.going c.in_ok-array.ensures.round c.in_ok-array.ensures.stand c.in_ok-array.ensures.size).bound,
     )
 
 pub invariant_of-after : goal.invariant_of-after
 invariant_of-after g c =
-    kept_of_view c.self.invariant c.self.view_is c.requires.going c.in_ok-fingers.ensures.round c.in_ok-fingers.ensures.stand c.in_ok-fingers.ensures.size
+    kept_of_view c.self.invariant c.self.view_is c.requires.going c.in_ok-array.ensures.round c.in_ok-array.ensures.stand c.in_ok-array.ensures.size
 
 pub returns-clause-same : goal.returns-clause-same
-returns-clause-same g c = (after_of_view c.self.invariant c.self.view_is c.requires.going c.in_ok-fingers.ensures.round).same
+returns-clause-same g c = (after_of_view c.self.invariant c.self.view_is c.requires.going c.in_ok-array.ensures.round).same
 
 pub returns-clause-covered : goal.returns-clause-covered
-returns-clause-covered g c = (after_of_view c.self.invariant c.self.view_is c.requires.going c.in_ok-fingers.ensures.round).covered
+returns-clause-covered g c = (after_of_view c.self.invariant c.self.view_is c.requires.going c.in_ok-array.ensures.round).covered
 
 pub returns-clause-bound : goal.returns-clause-bound
-returns-clause-bound g c = (after_of_view c.self.invariant c.self.view_is c.requires.going c.in_ok-fingers.ensures.round).bound
+returns-clause-bound g c = (after_of_view c.self.invariant c.self.view_is c.requires.going c.in_ok-array.ensures.round).bound
 
 pub returns-clause-some : goal.returns-clause-some
-returns-clause-some g c = (after_of_view c.self.invariant c.self.view_is c.requires.going c.in_ok-fingers.ensures.round).some
+returns-clause-some g c = (after_of_view c.self.invariant c.self.view_is c.requires.going c.in_ok-array.ensures.round).some

@@ -1,0 +1,11 @@
+use Rattle.std.proofs.Common.{rules, refl}
+use Rattle.pq_round.proofs.Working.{done_none}
+use Rattle.pq_round.proofs.workers.work_alone.Goals as goal
+
+pub jobs-init : goal.jobs-init
+jobs-init g c = record {
+  belongs = c.requires.belongs;
+  right = c.requires.right;
+  staked = refl;
+  done = done_none c.args.shop.now.cells.now c.args.shop.now.rules.now c.args.shop.now.board.now.plan c.args.pass.now.view.rights c.args.pass.now.view c.new-results.result.items c.requires.idle (search rules);
+}
