@@ -68,7 +68,7 @@ const CX_1_2: Gate = Gate::Cx {
 };
 
 // a segment of these gates
-fn segment_of(alloc: Global, gates: &[Gate]) -> Result<Seg, OutOfMemory>
+pub fn segment_of(alloc: Global, gates: &[Gate]) -> Result<Seg, OutOfMemory>
     requires { length gates.now ≤ MAX_SEGMENT }
     ensures { IfOk result (λ seg. seg.items ≡ gates.now) }
 {

@@ -1,5 +1,6 @@
 ghost use Rattle.std.specs.Prelude.{◌≤◌};
 
+use crate::rewriting_tests::segment_of;
 use crate::{Redex, Seg, find_first, find_within};
 use pq_gate::{Eighths, Gate};
 use pq_limits::MAX_SEGMENT;
@@ -190,5 +191,62 @@ fn a_redex_reaches_from_the_first_gate_to_the_last(rt: HostRuntime) -> Result<()
     let seg = turns_between(rt.alloc(), MAX_SEGMENT)?;
     let found = told(rt.alloc(), find_first(&seg, &rules))?;
     assert!(rt; found.as_str() == "1 at 0 2047");
+    Ok(())
+}
+
+fn first_of_all_is(
+    rt: &(impl Abort + AllocGlobal),
+    rules: &Rules,
+    gates: &[Gate],
+    expected: &str,
+) -> Result<(), OutOfMemory> {
+    assert!(rt; gates.len() < 100);
+    let seg = segment_of(rt.alloc(), gates)?;
+    let found = told(rt.alloc(), find_first(&seg, rules))?;
+    assert!(rt; found.as_str() == expected, "{gates:?}: {found}");
+    Ok(())
+}
+
+// The gates of a row, each with an H on another wire behind it, are a redex of that row.
+fn row_is_found_apart(
+    rt: &(impl Abort + AllocGlobal),
+    rules: &Rules,
+    number: u32,
+) -> Result<(), OutOfMemory> {
+    let Some(row) = rules.row(number) else {
+        panic!(rt; "no row {number}");
+    };
+    let mut gates = Vec::new(rt.alloc());
+    let mut expected = format!(in rt.alloc(); "{number} at")?;
+    for gate in row.pattern() {
+        let more = format!(in rt.alloc(); " {}", gates.len())?;
+        expected.push_str(&more)?;
+        gates.push(*gate)?;
+        gates.push(Gate::H { wire: 9 })?;
+    }
+    first_of_all_is(rt, rules, &gates, expected.as_str())
+}
+
+#[test]
+fn each_row_is_found_with_gates_between(rt: HostRuntime) -> Result<(), Fail> {
+    let rules = Rules::builtin(rt.alloc())?;
+    for number in 1..53 {
+        row_is_found_apart(&rt, &rules, number)?;
+    }
+    Ok(())
+}
+
+#[test]
+fn wires_may_be_greater_than_the_segment(rt: HostRuntime) -> Result<(), Fail> {
+    let rules = Rules::builtin(rt.alloc())?;
+    let one = Gate::H { wire: 4_096 };
+    let other = Gate::H { wire: 8_192 };
+    let across = Gate::Cx {
+        control: 4_096,
+        target: 4_294_967_295,
+    };
+    first_of_all_is(&rt, &rules, &[one, other, one], "1 at 0 2")?;
+    first_of_all_is(&rt, &rules, &[one, other, across, one], "none")?;
+    first_of_all_is(&rt, &rules, &[across, other, across, one], "3 at 0 2")?;
     Ok(())
 }

@@ -97,6 +97,36 @@ fn a_rewriting_opens_a_redex_before_it(rt: HostRuntime) -> Result<(), Fail> {
     Ok(())
 }
 
+// So many T gates on wires of their own, in front of them an H on wire 0 and behind them two X and an H there.
+fn apart(alloc: Global, count: u32) -> Result<Seg, OutOfMemory>
+    requires { count ≤ 2000 }
+{
+    let mut seg = Seg::reserve(alloc, count + 4)?;
+    seg.push(H);
+    for number in 0..count {
+        seg.push(Gate::Phase {
+            eighths: Eighths::T,
+            wire: number + 1,
+        });
+    }
+    seg.push(X);
+    seg.push(X);
+    seg.push(H);
+    Ok(seg)
+}
+
+#[test]
+fn a_rewriting_opens_a_redex_far_before_it(rt: HostRuntime) -> Result<(), Fail> {
+    let rules = Rules::builtin(rt.alloc())?;
+    let mut seg = apart(rt.alloc(), 2_000)?;
+    let outcome = improve(&rules, &mut seg);
+    assert!(rt; outcome.improved);
+    assert_eq!(rt; outcome.phase, 0);
+    assert_eq!(rt; seg.gates().len(), 2_000);
+    assert!(rt; !seg.gates().iter().any(|gate| gate.touches(0)));
+    Ok(())
+}
+
 // Two H gates, worked under this ticket.
 fn worked<'r>(alloc: Global, rules: &'r Rules, ticket: u64) -> Result<Worked<'r>, OutOfMemory> {
     let input = GateList::of(Vec::from_slice(alloc, &[H, H])?);
