@@ -7,6 +7,8 @@ use Rattle.pq_gate.specs.declared.role.Role.{Role}
 use Rattle.pq_gate.specs.declared.role.Role.TheVariants as role
 use Rattle.pq_gate.specs.Ports.{ports_of, first_wire, last_wire}
 use Rattle.pq_gate.specs.Role.{role_number, acts_along}
+use Rattle.pq_gate.specs.declared.role.TheConstants.{ROLES}
+use Rattle.pq_rules.specs.declared.seen.TheConstants.{SEEN}
 use Rattle.pq_rules.specs.declared.seen.Seen.{Seen}
 use Rattle.pq_rules.specs.declared.seen.Seen.TheVariants as seen
 use Rattle.pq_rules.specs.Kinds.{begins}
@@ -77,15 +79,15 @@ admits (gate ∷ rest) near far = admits_roles (last_role gate) (roles_on (last_
 abbrev pub is_admitting : ℕ → Seen → Seen → RowView → Bool
 is_admitting kind near far row = begins kind row.pattern && admits row.pattern near far
 
--- the number of what is seen, below 11
+-- the number of what is seen, below SEEN
 abbrev pub seen_number : Seen → ℕ
-seen_number seen.Nothing = 9
-seen_number seen.Unclear = 10
+seen_number seen.Nothing = ROLES
+seen_number seen.Unclear = ROLES + 1
 seen_number (seen.Plays own) = role_number own
 
 -- which entry of the table has the numbers of the rows that begin with this kind and admit what is seen
 abbrev pub entry_of : ℕ → Seen → Seen → ℕ
-entry_of kind near far = (kind * 11 + seen_number near) * 11 + seen_number far
+entry_of kind near far = (kind * SEEN + seen_number near) * SEEN + seen_number far
 
 -- the first gate on the wire: how many gates stand before it, and the role that it plays there
 abbrev pub LeadsRoles : ℕ → List Gate → Option (ℕ × Role) → Type 0
