@@ -4,7 +4,7 @@ use crate::{Outcome, Worked, WorkedList, improve};
 use pq_gate::{Eighths, Gate, GateList};
 use pq_list::OutOfMemory;
 use pq_match::Seg;
-use pq_rules::Rules;
+use pq_rules::{RawRow, Row, Rules, check_row};
 use std::alloc::Global;
 use std::process::Abort;
 use std::test::Fail;
@@ -124,6 +124,95 @@ fn a_rewriting_opens_a_redex_far_before_it(rt: HostRuntime) -> Result<(), Fail> 
     assert_eq!(rt; outcome.phase, 0);
     assert_eq!(rt; seg.gates().len(), 2_000);
     assert!(rt; !seg.gates().iter().any(|gate| gate.touches(0)));
+    Ok(())
+}
+
+fn row_of(
+    rt: &(impl Abort + AllocGlobal),
+    pattern: &[Gate],
+    replacement: &[Gate],
+) -> Result<Row, OutOfMemory>
+    requires pattern { length pattern.now ≤ 16 }
+    requires replacement { length replacement.now ≤ 16 }
+{
+    let raw = RawRow {
+        wires: 3,
+        pattern: GateList::of(Vec::from_slice(rt.alloc(), pattern)?),
+        replacement: GateList::of(Vec::from_slice(rt.alloc(), replacement)?),
+    };
+    match check_row(raw) {
+        Ok(row) => Ok(row),
+        Err(fault) => panic!(rt; "{fault:?}"),
+    }
+}
+
+fn h_on(wire: u32) -> Gate {
+    Gate::H { wire }
+}
+
+fn z_on(wire: u32) -> Gate {
+    Gate::Phase {
+        eighths: Eighths::Z,
+        wire,
+    }
+}
+
+fn cx_on(control: u32, target: u32) -> Gate {
+    Gate::Cx { control, target }
+}
+
+// Two rows whose patterns have gates on wires apart from those before them. The first redex is one of the second row, and
+// what it opens is one of the first row.
+#[test]
+fn rows_with_gates_on_wires_apart_are_rewritten(rt: HostRuntime) -> Result<(), Fail> {
+    let one = row_of(
+        &rt,
+        &[
+            cx_on(0, 1),
+            h_on(2),
+            h_on(1),
+            cx_on(2, 0),
+            z_on(0),
+            cx_on(2, 0),
+        ],
+        &[cx_on(0, 1), h_on(2), h_on(1), z_on(0), z_on(2)],
+    )?;
+    let other = row_of(
+        &rt,
+        &[z_on(0), h_on(1), h_on(1), z_on(2)],
+        &[cx_on(2, 0), z_on(0), cx_on(2, 0)],
+    )?;
+    let mut extra = Vec::new(rt.alloc());
+    extra.push(one)?;
+    extra.push(other)?;
+    let rules = Rules::builtin(rt.alloc())?.with(rt.alloc(), extra)?;
+    let given = [
+        cx_on(0, 1),
+        h_on(2),
+        h_on(1),
+        cx_on(0, 3),
+        cx_on(0, 4),
+        z_on(0),
+        h_on(5),
+        h_on(5),
+        z_on(2),
+    ];
+    let mut seg = segment(rt.alloc(), &given)?;
+    let outcome = improve(&rules, &mut seg);
+    assert!(rt; outcome.improved);
+    assert!(rt;
+        seg.gates()
+            == [
+                cx_on(0, 3),
+                cx_on(0, 4),
+                cx_on(0, 1),
+                h_on(2),
+                h_on(1),
+                z_on(0),
+                z_on(2)
+            ]
+            .as_slice()
+    );
     Ok(())
 }
 

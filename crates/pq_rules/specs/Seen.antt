@@ -1,29 +1,35 @@
 -- Which rows may have a redex at a gate, by the next two gates on its last wire.
 use Rattle.std.specs.Prelude.{◌≡◌, ℕ, ◌+◌, ◌*◌, ◌<◌, ◌==◌, Bool, true, false, cond, ◌&&◌, ◌||◌, List, [], ◌∷◌, length, drop, slice_get, Option, None, Some}
 use Rattle.pq_gate.specs.declared.gate.Gate.{Gate}
-use Rattle.pq_gate.specs.declared.gate.Gate.TheVariants.{H, X, Phase, Cx}
+use Rattle.pq_gate.specs.declared.ports.Port.{Port}
 use Rattle.pq_gate.specs.declared.role.Axis.TheVariants as axis
 use Rattle.pq_gate.specs.declared.role.Role.{Role}
 use Rattle.pq_gate.specs.declared.role.Role.TheVariants as role
-use Rattle.pq_gate.specs.Ports.{first_wire, last_wire}
+use Rattle.pq_gate.specs.Ports.{ports_of, first_wire, last_wire}
 use Rattle.pq_gate.specs.Role.{role_number, acts_along}
+use Rattle.pq_gate.specs.declared.role.TheConstants.{ROLES}
+use Rattle.pq_rules.specs.declared.seen.TheConstants.{SEEN}
 use Rattle.pq_rules.specs.declared.seen.Seen.{Seen}
 use Rattle.pq_rules.specs.declared.seen.Seen.TheVariants as seen
 use Rattle.pq_rules.specs.Kinds.{begins}
 use Rattle.pq_rules.specs.Row.{RowView}
 
+-- the roles of the first and of the last of some ports, H where there is none
+abbrev pub first_role_of : List Port → Role
+first_role_of [] = role.H
+first_role_of (only ∷ rest) = only.role
+
+abbrev pub last_role_of : List Port → Role
+last_role_of [] = role.H
+last_role_of (only ∷ []) = only.role
+last_role_of (first ∷ second ∷ rest) = last_role_of (second ∷ rest)
+
 -- the roles of a gate on its first and on its last wire
 abbrev pub first_role : Gate → Role
-first_role (H wire) = role.H
-first_role (X wire) = role.X
-first_role (Phase eighths wire) = role.Phase eighths
-first_role (Cx control target) = role.Control
+first_role gate = first_role_of (ports_of gate)
 
 abbrev pub last_role : Gate → Role
-last_role (H wire) = role.H
-last_role (X wire) = role.X
-last_role (Phase eighths wire) = role.Phase eighths
-last_role (Cx control target) = role.Target
+last_role gate = last_role_of (ports_of gate)
 
 -- whether the gate uses the wire, and the role that it plays there
 abbrev pub uses : ℕ → Gate → Bool
@@ -73,15 +79,15 @@ admits (gate ∷ rest) near far = admits_roles (last_role gate) (roles_on (last_
 abbrev pub is_admitting : ℕ → Seen → Seen → RowView → Bool
 is_admitting kind near far row = begins kind row.pattern && admits row.pattern near far
 
--- the number of what is seen, below 11
+-- the number of what is seen, below SEEN
 abbrev pub seen_number : Seen → ℕ
-seen_number seen.Nothing = 9
-seen_number seen.Unclear = 10
+seen_number seen.Nothing = ROLES
+seen_number seen.Unclear = ROLES + 1
 seen_number (seen.Plays own) = role_number own
 
 -- which entry of the table has the numbers of the rows that begin with this kind and admit what is seen
 abbrev pub entry_of : ℕ → Seen → Seen → ℕ
-entry_of kind near far = (kind * 11 + seen_number near) * 11 + seen_number far
+entry_of kind near far = (kind * SEEN + seen_number near) * SEEN + seen_number far
 
 -- the first gate on the wire: how many gates stand before it, and the role that it plays there
 abbrev pub LeadsRoles : ℕ → List Gate → Option (ℕ × Role) → Type 0

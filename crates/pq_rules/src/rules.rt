@@ -9,7 +9,7 @@ ghost use Rattle.pq_rules.specs.Shapes.{rule_row};
 ghost use Rattle.pq_rules.specs.Table.{builtin_rows};
 
 use crate::row::{RawRow, Row};
-use crate::seen::{Seen, is_admitted, seen_numbered};
+use crate::seen::{SEEN, Seen, is_admitted, seen_numbered};
 use crate::table::{BuiltinRule, builtin_rules};
 use pq_gate::{Gate, GateList, KINDS};
 use pq_limits::MAX_EXTRA_ROWS;
@@ -23,8 +23,11 @@ pub const BUILTIN_ROWS: usize = 52;
 /// The most rows: the built-in ones, and as many as may follow them.
 pub const MAX_ROWS: usize = BUILTIN_ROWS + MAX_EXTRA_ROWS;
 
+// how many entries there are for each kind and what is seen first
+const WIDTH: usize = SEEN as usize;
+
 // how many entries the table has: for each kind, and for each two that are seen
-const ENTRIES: usize = 968;
+const ENTRIES: usize = KINDS as usize * WIDTH * WIDTH;
 
 /// Sound rows, numbered from 1, with an index by the kind of their first gate. Contracts see the list
 /// of the rows.
@@ -147,7 +150,7 @@ impl Rules {
         ensures sound { All IsSound self.now }
     {
         let kind = gate.kind().number() as usize;
-        let entry = (kind * 11 + near.number() as usize) * 11 + far.number() as usize;
+        let entry = (kind * WIDTH + near.number() as usize) * WIDTH + far.number() as usize;
         self.admitting[entry].as_slice()
     }
 }
@@ -250,9 +253,9 @@ fn table_of(alloc: Global, rows: &[Row]) -> Result<Vec<Vec<u32>>, OutOfMemory>
 {
     let mut table = Vec::with_capacity(alloc, ENTRIES)?;
     for entry in 0..ENTRIES {
-        let of_kind = (entry / 121) as u8;
-        let near = seen_numbered((entry / 11 % 11) as u8);
-        let far = seen_numbered((entry % 11) as u8);
+        let of_kind = (entry / (WIDTH * WIDTH)) as u8;
+        let near = seen_numbered((entry / WIDTH % WIDTH) as u8);
+        let far = seen_numbered((entry % WIDTH) as u8);
         table.push_reserved(numbers_admitting(alloc, rows, of_kind, near, far)?);
     }
     Ok(table)

@@ -3,7 +3,7 @@
 ghost use Rattle.std.specs.Prelude.{◌≡◌, ◌∷◌, [], ◌+◌, ◌<◌, drop, length, slice_get, None, Some};
 ghost use Rattle.pq_rules.specs.Seen.{role_on, roles_on, last_role, agree, may_be, may_pass, goes_on, admits_roles, admits, seen_number, LeadsRoles, AreFirstTwo, goes_on_to, admits_two};
 
-use pq_gate::{Axis, Eighths, Gate, Ports, Role};
+use pq_gate::{Axis, Eighths, Gate, Ports, ROLES, Role};
 
 /// What stands next on a wire.
 #[derive(Clone, Copy, Debug, PartialEq, Eq)]
@@ -19,7 +19,7 @@ pub enum Seen {
 }
 
 /// How many numbers there are for what is seen.
-pub const SEEN: u8 = 11;
+pub const SEEN: u8 = ROLES + 2;
 
 impl Seen {
     /// A number below `SEEN`, of each another one.
@@ -28,8 +28,8 @@ impl Seen {
         ensures below { result < SEEN }
     {
         match self {
-            Seen::Nothing => 9,
-            Seen::Unclear => 10,
+            Seen::Nothing => ROLES,
+            Seen::Unclear => ROLES + 1,
             Seen::Plays(role) => role.number(),
         }
     }
@@ -50,7 +50,7 @@ pub fn seen_numbered(number: u8) -> Seen
         6 => Seen::Plays(Role::Phase(Eighths::Z)),
         7 => Seen::Plays(Role::Phase(Eighths::Sdg)),
         8 => Seen::Plays(Role::Phase(Eighths::Tdg)),
-        9 => Seen::Nothing,
+        ROLES => Seen::Nothing,
         _ => Seen::Unclear,
     }
 }
