@@ -139,7 +139,7 @@ fn run_rounds<R: Threads + Sync, G: WorkGate>(
     let _count = rules.count();
     let mut looping = Loop::open(alloc, gates, omega, rules)?;
     'rounds: while !looping.is_done() {
-        let (next, _step) = looping.round(rt, alloc, workers, gate)?;
+        let (next, _step, _receipt) = looping.round(rt, alloc, workers, gate)?;
         looping = next;
     }
     looping.finish(alloc)
