@@ -15,6 +15,7 @@ fn main(rt: HostRuntime) -> ExitCode {
         Ok(words) => {
             let mut source = ReadSource::new(rt.stdin());
             let mut sink = WriteSink::new(rt.stdout());
+            let mut log = Vec::new(rt.alloc());
             run_popqc(
                 &rt,
                 rt.alloc(),
@@ -22,6 +23,7 @@ fn main(rt: HostRuntime) -> ExitCode {
                 &mut source,
                 &mut sink,
                 &mut notes,
+                &mut log,
                 &OpenGate,
             )
         }

@@ -12,13 +12,14 @@ use Rattle.std.proofs.lemmas.Bool.{cases_Bool}
 use Rattle.std.proofs.lemmas.List.{drop_more, drop_all}
 use Rattle.pq_gate.specs.declared.gate.Gate.{Gate}
 use Rattle.pq_oracle.specs.Outcomes.{WorkedView}
-use Rattle.pq_array.specs.Cells.{IsLiveRun, IsLive, live_places, live_places_from, Replaces}
+use Rattle.pq_array.specs.Cells.{live, IsLiveRun, IsLive, live_places, live_places_from, Replaces}
 use Rattle.pq_array.specs.Counts.{Counts}
 use Rattle.pq_array.specs.Tree.{IsTreeOf}
+use Rattle.pq_array.proofs.Descent.{root_counts}
 use Rattle.pq_board.specs.Sums.{times, one_if_same}
 use Rattle.pq_board.specs.Ways.{live_leaves}
 use Rattle.pq_board.specs.Law.{late, one_if_late}
-use Rattle.pq_board.specs.Steps.{without, early, AreFirst}
+use Rattle.pq_board.specs.Steps.{Numbers, without, early, AreFirst}
 use Rattle.pq_board.specs.declared.plan.Plan.{Plan}
 use Rattle.pq_board.proofs.Keeping.{late_below}
 use Rattle.pq_board.proofs.Whole.{early_late}
@@ -233,3 +234,13 @@ tree_after {A} old cells new words closed given other tree is size same numbers 
   leaves = subst (λ (n : ℕ). IsNextPowerOfTwo n (length closed / 2)) (sym (size ∙ ap (λ (l : List (Option A)). length l) is)) (subst (λ (n : ℕ). IsNextPowerOfTwo (length old) (n / 2)) (sym same) tree.leaves);
   counts = subst (Counts closed) (sym (gone ∙ ap (λ (l : List ℕ). without l (live_places cells)) numbers)) counts;
 }
+
+-- the roots of the board's words are the numbers of the live cells before and after a round with a job for each selected finger
+pub round_receipt : {A : Type 0} (old cells new : List (Option A)) (words closed : List ℕ) (jobs : List (List ℕ)) → IsTreeOf old words → IsTreeOf cells closed → new ≡ cells →
+    {selected : ℕ} → selected ≡ length jobs → {receipt : Numbers} →
+    receipt ≡ record { jobs = length jobs; claimed = length jobs; opened = get_or words 1 0; closed = get_or closed 1 0 } →
+    receipt ≡ record { jobs = selected; claimed = selected; opened = length (live old); closed = length (live new) }
+round_receipt {A} old cells new words closed jobs before after same {selected} count {receipt} is =
+    let opened : get_or words 1 0 ≡ length (live old) = root_counts old words before in
+    let left : get_or closed 1 0 ≡ length (live new) = root_counts cells closed after ∙ ap (λ (l : List (Option A)). length (live l)) (sym same) in
+    is ∙ (λ i. record { jobs = sym count i; claimed = sym count i; opened = opened i; closed = left i })

@@ -9,3 +9,4 @@ pub use Rattle.pq_method.specs.Opt
 pub mod Loops
 pub mod Counted
 pub mod Segments
+pub mod Receipts

@@ -11,4 +11,5 @@ mod segments;
 mod tests;
 
 pub use looping::{Finished, Loop};
+pub use pq_board::Receipt;
 pub use pq_method::Step;

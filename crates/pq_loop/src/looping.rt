@@ -5,13 +5,15 @@ ghost use Rattle.pq_gate.specs.Matrix.{Same};
 ghost use Rattle.pq_gaps.specs.Gaps.{first_fingers};
 ghost use Rattle.pq_limits.specs.Limits.{AreWorkers, IsOmega};
 ghost use Rattle.pq_method.specs.Round.{Round};
-ghost use Rattle.pq_method.specs.Opt.{first_state, Local};
+ghost use Rattle.pq_method.specs.Opt.{first_state, numbers_of, Local};
 ghost use Rattle.pq_loop.specs.Loops.{IsCovered};
+ghost use Rattle.pq_loop.specs.Receipts.{receipt_of};
 
 use crate::one_round::work_round;
 #[cfg(test)]
 use crate::segments::gaps_of;
 use pq_array::GateArray;
+use pq_board::Receipt;
 use pq_finger::Fingers;
 use pq_gate::{Gate, GateList};
 use pq_limits::MAX_GATES;
@@ -125,15 +127,15 @@ impl Loop {
 
     /// One round, while there is a finger: the segments of the selected fingers are given to the oracle, its answers
     /// are put in their places, and the fingers are settled and moved. So many workers, 1 to 64, give them to the oracle,
-    /// as `run_round` of `pq_round` says; the gate is called before and after each. Where memory is refused, the loop is
-    /// spent.
+    /// as `run_round` of `pq_round` says; the gate is called before and after each. The receipt is that of the round's
+    /// board. Where memory is refused, the loop is spent.
     pub fn round<R: Threads + Sync, G: WorkGate>(
         self,
         rt: &R,
         alloc: Global,
         workers: u32,
         gate: &G,
-    ) -> Result<(Loop, Step), OutOfMemory>
+    ) -> Result<(Loop, Step, Receipt), OutOfMemory>
         requires going { 0 < length self.state.fingers }
         requires workers { AreWorkers workers }
         ensures round { IfOk result (λ made. Round self.rules self.omega self.state made.0.state made.1) }
@@ -146,6 +148,7 @@ impl Loop {
         ensures bound { IfOk result (λ made. length made.0.state.fingers + 2 * length made.0.state.gates + made.1.selected
             ≤ length self.state.fingers + 2 * length self.state.gates) }
         ensures some { IfOk result (λ made. 0 < made.1.selected) }
+        ensures receipt { IfOk result (λ made. made.2 ≡ receipt_of (numbers_of self.state made.0.state made.1)) }
     {
         let Loop {
             array,
@@ -157,7 +160,7 @@ impl Loop {
             phase,
             first_fingers,
         } = self;
-        let (array, fingers, step) = work_round(
+        let (array, fingers, step, receipt) = work_round(
             rt, alloc, array, &fingers, &rules, omega, workers, gate,
         )?;
         let after = Loop {
@@ -170,7 +173,7 @@ impl Loop {
             phase: (phase + step.phase) % 8,
             first_fingers,
         };
-        Ok((after, step))
+        Ok((after, step, receipt))
     }
 
     /// What is left, where there is no finger any more: no run of at most Omega gates has a redex. There were at most

@@ -4,11 +4,14 @@ ghost use Rattle.pq_gaps.specs.Gaps.{ascending};
 ghost use Rattle.pq_limits.specs.Limits.{AreWorkers, IsOmega};
 ghost use Rattle.pq_match.specs.Row.{IsSound};
 ghost use Rattle.pq_method.specs.Round.{Round};
+ghost use Rattle.pq_method.specs.Opt.{numbers_of};
+ghost use Rattle.pq_loop.specs.Receipts.{receipt_of};
 ghost use Rattle.pq_loop.specs.Segments.{stands, state_of, works_of, AreNumbersOf, AreMoved};
 
 use crate::over_board::work_over_board;
 use crate::segments::{Segments, cuts_of, segments_of};
 use pq_array::GateArray;
+use pq_board::Receipt;
 use pq_finger::Fingers;
 use pq_limits::MAX_GATES;
 use pq_list::OutOfMemory;
@@ -20,8 +23,8 @@ use std::alloc::Global;
 use std::thread::Threads;
 
 /// One round by so many workers, with the gate before and after each ticket: the gates of the array become those
-/// after the round. Answers the fingers after it, and its numbers. Each finger is at the place of a live gate, or at
-/// the end.
+/// after the round. Answers the fingers after it, its numbers, and the receipt of its board. Each finger is at the place
+/// of a live gate, or at the end.
 pub fn work_round<R: Threads + Sync, G: WorkGate>(
     rt: &R,
     alloc: Global,
@@ -31,7 +34,7 @@ pub fn work_round<R: Threads + Sync, G: WorkGate>(
     omega: u32,
     workers: u32,
     gate: &G,
-) -> Result<(GateArray, Fingers, Step), OutOfMemory>
+) -> Result<(GateArray, Fingers, Step, Receipt), OutOfMemory>
     requires omega { IsOmega omega }
     requires workers { AreWorkers workers }
     requires few { length array ≤ MAX_GATES }
@@ -39,6 +42,8 @@ pub fn work_round<R: Threads + Sync, G: WorkGate>(
     ensures round { IfOk result (λ made. Round rules.now omega (state_of array fingers.now) (state_of made.0 made.1) made.2) }
     ensures stand { IfOk result (λ made. All (λ place. IsTrue (stands made.0 place)) made.1) }
     ensures size { IfOk result (λ made. length made.0 ≡ length array) }
+    ensures receipt { IfOk result (λ made. made.3
+        ≡ receipt_of (numbers_of (state_of array fingers.now) (state_of made.0 made.1) made.2)) }
 {
     // the fingers are in order, and the rows are sound
     let _places = fingers.places();
@@ -69,7 +74,7 @@ pub fn work_round<R: Threads + Sync, G: WorkGate>(
     let array = GateArray::rejoin(cells, closed.words);
     let step = step_of(results, before - array.live());
     let fingers = moved_on(alloc, &array, settled)?;
-    Ok((array, fingers, step))
+    Ok((array, fingers, step, closed.receipt))
 }
 
 /// The numbers of a round with these results, which removed so many gates.

@@ -1,7 +1,7 @@
 ghost use Rattle.std.specs.Prelude.{◌≤◌, length};
 ghost use Rattle.pq_limits.specs.Limits.{IsOmega};
 
-use crate::{Finished, Loop, Step};
+use crate::{Finished, Loop, Receipt, Step};
 use pq_gate::{Eighths, Gate};
 use pq_list::OutOfMemory;
 use pq_round::OpenGate;
@@ -59,18 +59,28 @@ fn opened(
     Ok(made)
 }
 
-// Makes a round with four workers. These numbers are wanted, and these gaps of the fingers after it.
+// Makes a round with four workers. These numbers are wanted, these of the receipt (jobs, claimed, opened, closed), and
+// these gaps of the fingers after it.
 fn next(
     rt: &(impl Abort + AllocGlobal + Threads + Sync),
     before: Loop,
     want: Step,
+    receipt: [u64; 4],
     gaps: &[u64],
 ) -> Result<Loop, OutOfMemory> {
     assert!(rt; !before.is_done());
-    let (after, step) = before.round(rt, rt.alloc(), 4, &OpenGate)?;
+    let (after, step, made) = before.round(rt, rt.alloc(), 4, &OpenGate)?;
     assert_eq!(rt; step, want);
+    receipt_is(rt, &made, receipt);
     has_fingers_at(rt, &after, gaps)?;
     Ok(after)
+}
+
+fn receipt_is(rt: &impl Abort, receipt: &Receipt, want: [u64; 4]) {
+    assert_eq!(rt; receipt.jobs(), want[0]);
+    assert_eq!(rt; receipt.claimed(), want[1]);
+    assert_eq!(rt; receipt.opened(), want[2]);
+    assert_eq!(rt; receipt.closed(), want[3]);
 }
 
 // Ends the loop, where these gates are wanted to be left.
@@ -98,9 +108,9 @@ fn eight_gates_are_done_after_three_rounds(rt: HostRuntime) -> Result<(), Fail> 
     let (t2, s2) = (phase(Eighths::T, 2), phase(Eighths::S, 2));
     let gates = [h(0), h(0), t1, s1, t2, s2, h(3), h(3)];
     let state = opened(&rt, &gates, 2, &[0, 2, 4, 6])?;
-    let state = next(&rt, state, numbers(2, 1, 2, 0), &[0, 4])?;
-    let state = next(&rt, state, numbers(2, 1, 2, 0), &[2])?;
-    let state = next(&rt, state, numbers(1, 0, 0, 0), &[])?;
+    let state = next(&rt, state, numbers(2, 1, 2, 0), [2, 2, 8, 6], &[0, 4])?;
+    let state = next(&rt, state, numbers(2, 1, 2, 0), [2, 2, 6, 4], &[2])?;
+    let state = next(&rt, state, numbers(1, 0, 0, 0), [1, 1, 4, 4], &[])?;
     let left = end(&rt, state, &[t1, s1, t2, s2])?;
     counts(&rt, &left, 3, 5, 0, 4);
     Ok(())
@@ -112,9 +122,9 @@ fn a_finger_at_the_end_is_not_inside_an_improved_segment(rt: HostRuntime) -> Res
     let z = phase(Eighths::Z, 0);
     let gates = [s, h(0), z, z, s, h(0), x(0), z, x(0), z];
     let state = opened(&rt, &gates, 2, &[0, 2, 4, 6, 8])?;
-    let state = next(&rt, state, numbers(3, 2, 6, 4), &[2, 4])?;
-    let state = next(&rt, state, numbers(1, 1, 2, 1), &[2])?;
-    let state = next(&rt, state, numbers(1, 0, 0, 0), &[])?;
+    let state = next(&rt, state, numbers(3, 2, 6, 4), [3, 3, 10, 4], &[2, 4])?;
+    let state = next(&rt, state, numbers(1, 1, 2, 1), [1, 1, 4, 2], &[2])?;
+    let state = next(&rt, state, numbers(1, 0, 0, 0), [1, 1, 2, 2], &[])?;
     let left = end(&rt, state, &[h(0), phase(Eighths::Sdg, 0)])?;
     counts(&rt, &left, 3, 5, 5, 5);
     Ok(())
@@ -132,7 +142,7 @@ fn no_gate_needs_no_round(rt: HostRuntime) -> Result<(), Fail> {
 fn rounds_tell_their_phase(rt: HostRuntime) -> Result<(), Fail> {
     let gates = [x(0), phase(Eighths::T, 0), x(0)];
     let state = opened(&rt, &gates, 4, &[0])?;
-    let state = next(&rt, state, numbers(1, 1, 2, 1), &[])?;
+    let state = next(&rt, state, numbers(1, 1, 2, 1), [1, 1, 3, 1], &[])?;
     let left = end(&rt, state, &[phase(Eighths::Tdg, 0)])?;
     counts(&rt, &left, 1, 1, 1, 1);
     Ok(())

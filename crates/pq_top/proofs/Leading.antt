@@ -1,7 +1,7 @@
 -- Rounds that were made, and those that are still to come.
-use Rattle.std.proofs.Common.{◌≡◌, ℕ, ◌+◌, ◌%◌, ◌<◌, Bool, true, false, List, [], ◌∷◌, ◌++◌, length, refl, sym, ◌∙◌, subst, arith, append_assoc}
+use Rattle.std.proofs.Common.{◌≡◌, ℕ, ◌+◌, ◌%◌, ◌<◌, Bool, true, false, List, [], ◌∷◌, ◌++◌, length, refl, sym, ◌∙◌, subst, arith, append_assoc, ap, map}
 use Rattle.std.specs.Prelude.{IsTrue}
-use Rattle.std.proofs.lemmas.List.{append-nil, length-append}
+use Rattle.std.proofs.lemmas.List.{append-nil, length-append, map-append}
 use Rattle.std.proofs.lemmas.List.Sums.{sum_by-append}
 use Rattle.pq_gate.specs.declared.gate.Gate.{Gate}
 use Rattle.pq_rules.specs.Row.{RowView}
@@ -9,6 +9,8 @@ use Rattle.pq_method.specs.declared.step.Step.{Step}
 use Rattle.pq_loop.specs.Opt.{Total, RoundNumbers, numbers_of, calls_of, phase_of, no_rounds, after_round, Rounds, done, round, first_state, Opt}
 use Rattle.pq_loop.specs.declared.looping.Finished.{Finished}
 use Rattle.pq_loop.specs.Gaps.{first_fingers}
+use Rattle.pq_board.specs.Steps.{Numbers}
+use Rattle.pq_loop.specs.Receipts.{receipt_of}
 use Rattle.pq_loop.specs.Loops.{LoopView}
 use Rattle.pq_loop.specs.Round.{State, Round}
 use Rattle.pq_loop.specs.Counted.{IsEndOf}
@@ -21,8 +23,9 @@ with_rounds made total = record { gates = total.gates; rounds = made ++ total.ro
 abbrev pub LeadsTo : List RowView → ℕ → List Gate → State → List RoundNumbers → Type 0
 LeadsTo rules w gates state made = (total : Total) → Rounds rules w state total → Opt rules w gates (with_rounds made total)
 
--- The loop is on its way from the first fingers of the gates, and counted the rounds that it made.
-pub record IsOnItsWay (rules : List RowView) (w : ℕ) (gates : List Gate) (loop : LoopView) : Type 0 where
+-- The loop is on its way from the first fingers of the gates, and counted the rounds that it made; the log has their
+-- receipts more.
+pub record IsOnItsWay (rules : List RowView) (w : ℕ) (gates : List Gate) (old : List Numbers) (loop : LoopView) (log : List Numbers) : Type 0 where
   pub made : List RoundNumbers
   pub leads : LeadsTo rules w gates loop.state made
   pub rounds : loop.rounds ≡ length made
@@ -31,12 +34,13 @@ pub record IsOnItsWay (rules : List RowView) (w : ℕ) (gates : List Gate) (loop
   pub window_is : loop.omega ≡ w
   pub rules_are : loop.rules ≡ rules
   pub first_fingers_are : loop.first_fingers ≡ length (first_fingers (length gates) w)
+  pub logged : log ≡ old ++ map receipt_of made
 
 -- before the first round
-pub first_on_its_way : (rules : List RowView) (w : ℕ) (gates : List Gate) (loop : LoopView) → loop.state ≡ first_state w gates →
+pub first_on_its_way : (rules : List RowView) (w : ℕ) (gates : List Gate) (log : List Numbers) (loop : LoopView) → loop.state ≡ first_state w gates →
     loop.omega ≡ w → loop.rules ≡ rules → (loop.rounds ≡ 0) × (loop.calls ≡ 0) × (loop.phase ≡ 0) →
-    loop.first_fingers ≡ length (first_fingers (length gates) w) → IsOnItsWay rules w gates loop
-first_on_its_way rules w gates loop state window_is rules_are counts first_are = record {
+    loop.first_fingers ≡ length (first_fingers (length gates) w) → IsOnItsWay rules w gates log loop log
+first_on_its_way rules w gates log loop state window_is rules_are counts first_are = record {
   made = [];
   leads = λ total rest. subst (λ (s : State). Rounds rules w s total) state rest;
   rounds = counts.0;
@@ -45,15 +49,16 @@ first_on_its_way rules w gates loop state window_is rules_are counts first_are =
   window_is = window_is;
   rules_are = rules_are;
   first_fingers_are = first_are;
+  logged = sym (append-nil log);
 }
 
 -- after one round more
-pub next_on_its_way : (rules : List RowView) (w : ℕ) (gates : List Gate) (before after : LoopView) (step : Step) → IsOnItsWay rules w gates before →
+pub next_on_its_way : (rules : List RowView) (w : ℕ) (gates : List Gate) (before after : LoopView) (step : Step) (receipt : Numbers) (old log new : List Numbers) → IsOnItsWay rules w gates old before log →
     0 < length before.state.fingers → Round before.rules before.omega before.state after.state step →
     (after.omega ≡ before.omega) × (after.rules ≡ before.rules) × (after.first_fingers ≡ before.first_fingers) →
     after.rounds ≡ before.rounds + 1 → after.calls ≡ before.calls + step.selected → after.phase ≡ (before.phase + step.phase) % 8 →
-    IsOnItsWay rules w gates after
-next_on_its_way rules w gates before after step way some one settings rounds_are calls_are phase_is = record {
+    receipt ≡ receipt_of (numbers_of before.state after.state step) → new ≡ log ++ receipt ∷ [] → IsOnItsWay rules w gates old after new
+next_on_its_way rules w gates before after step receipt old log new way some one settings rounds_are calls_are phase_is receipt_is pushed = record {
   made = way.made ++ numbers ∷ [];
   leads = λ total rest.
       subst (λ (rounds : List RoundNumbers). Opt rules w gates (record { gates = total.gates; rounds = rounds }))
@@ -65,6 +70,10 @@ next_on_its_way rules w gates before after step way some one settings rounds_are
   window_is = settings.0 ∙ way.window_is;
   rules_are = settings.1 ∙ way.rules_are;
   first_fingers_are = settings.2 ∙ way.first_fingers_are;
+  logged = pushed ∙ (ap (λ (l : List Numbers). l ++ receipt ∷ []) way.logged
+      ∙ (append_assoc old (map receipt_of way.made) (receipt ∷ [])
+      ∙ ap (λ (l : List Numbers). old ++ l) (ap (λ (r : Numbers). map receipt_of way.made ++ r ∷ []) receipt_is
+      ∙ sym (map-append receipt_of way.made (numbers ∷ [])))));
 }
   where
     numbers : RoundNumbers
@@ -75,11 +84,11 @@ next_on_its_way rules w gates before after step way some one settings rounds_are
         (subst (λ (n : ℕ). Round before.rules n before.state after.state step) way.window_is one)
 
 -- when there is no finger any more
-pub led_to_end : (rules : List RowView) (w : ℕ) (gates : List Gate) (loop : LoopView) (finished : Finished) → IsOnItsWay rules w gates loop →
+pub led_to_end : (rules : List RowView) (w : ℕ) (gates : List Gate) (old log : List Numbers) (loop : LoopView) (finished : Finished) → IsOnItsWay rules w gates old loop log →
     loop.state.fingers ≡ [] → finished.gates.items ≡ loop.state.gates →
     (finished.rounds ≡ loop.rounds) × (finished.calls ≡ loop.calls) × (finished.phase ≡ loop.phase) × (finished.first_fingers ≡ loop.first_fingers) →
     IsEndOf rules w gates finished
-led_to_end rules w gates loop finished way none gates_are counts = record {
+led_to_end rules w gates old log loop finished way none gates_are counts = record {
   total = record { gates = loop.state.gates; rounds = way.made };
   opt = subst (λ (rounds : List RoundNumbers). Opt rules w gates (record { gates = loop.state.gates; rounds = rounds }))
       (append-nil way.made) (way.leads (no_rounds loop.state.gates) ends);

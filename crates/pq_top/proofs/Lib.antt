@@ -6,3 +6,4 @@ mod Optimising
 mod Statuses
 mod Working
 mod OneOutput
+mod Logging

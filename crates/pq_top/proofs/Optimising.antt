@@ -14,6 +14,7 @@ use Rattle.pq_rules.specs.Row.{RowView, IsSound}
 use Rattle.pq_rules.specs.Table.{builtin_rows}
 use Rattle.pq_loop.specs.declared.looping.Finished.{Finished}
 use Rattle.pq_loop.specs.Gaps.{first_fingers}
+use Rattle.pq_board.specs.Steps.{Numbers}
 use Rattle.pq_loop.specs.Loops.{LoopView}
 use Rattle.pq_loop.specs.Opt.{Total, phase_of, Opt, Local}
 use Rattle.pq_loop.specs.Counted.{IsCounted, IsEndOf}
@@ -55,16 +56,16 @@ left_by_opt w gates finished some sound is = record {
     shorter = opt_shorter builtin_rows w gates is.total some sound is.opt
 
 -- what a loop answers at its end
-pub left_at_end : {E : Type 0} (result : Result Finished E) (rules : List RowView) (w : ℕ) (gates : List Gate) (loop : LoopView) → 2 ≤ w →
-    rules ≡ builtin_rows → All IsSound rules → IsOnItsWay builtin_rows w gates loop → loop.state.fingers ≡ [] →
+pub left_at_end : {E : Type 0} (result : Result Finished E) (rules : List RowView) (w : ℕ) (gates : List Gate) (old log : List Numbers) (loop : LoopView) → 2 ≤ w →
+    rules ≡ builtin_rows → All IsSound rules → IsOnItsWay builtin_rows w gates old loop log → loop.state.fingers ≡ [] →
     IfOk result (λ finished. finished.gates.items ≡ loop.state.gates) →
     IfOk result (λ finished. (finished.rounds ≡ loop.rounds) × (finished.calls ≡ loop.calls) × (finished.phase ≡ loop.phase)
     × (finished.first_fingers ≡ loop.first_fingers)) →
     IfOk result (λ finished. IsLeft w gates finished)
-left_at_end (Err error) rules w gates loop least rules_are sound way none gates_are counts = tt
-left_at_end (Ok finished) rules w gates loop least rules_are sound way none gates_are counts =
+left_at_end (Err error) rules w gates old log loop least rules_are sound way none gates_are counts = tt
+left_at_end (Ok finished) rules w gates old log loop least rules_are sound way none gates_are counts =
     left_by_opt w gates finished (omega arith) (subst (All IsSound) rules_are sound)
-    (led_to_end builtin_rows w gates loop finished way none gates_are counts)
+    (led_to_end builtin_rows w gates old log loop finished way none gates_are counts)
 
 still_well_formed : (p : ProgramView) (gates : List Gate) (phase : ℕ) → WellFormed p → length gates ≤ length p.gates →
     KeepsMatrix p.gates gates phase → WellFormed (with_gates p gates)

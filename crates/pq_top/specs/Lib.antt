@@ -18,6 +18,8 @@ pub use Rattle.pq_loop.specs.Ora
 pub use Rattle.pq_loop.specs.Round
 pub use Rattle.pq_loop.specs.Opt
 pub use Rattle.pq_loop.specs.Counted
+pub use Rattle.pq_loop.specs.Receipts
+pub use Rattle.pq_board.specs.Steps
 pub use Rattle.pq_write.specs.Report
 pub use Rattle.pq_generate.specs.Generated
 pub use Rattle.pq_command.specs.CommandLine
@@ -29,3 +31,4 @@ pub mod Outputs
 pub mod Notes
 pub mod Answers
 pub mod Work
+pub mod Log

@@ -10,11 +10,10 @@ use Rattle.pq_command.specs.declared.settings.Settings.{Settings}
 use Rattle.pq_command.specs.Asked.{asked}
 use Rattle.pq_top.specs.declared.answer.Answer.{Answer}
 use Rattle.pq_top.specs.declared.answer.Output.{Output}
-use Rattle.pq_top.specs.declared.answer.Refusal.{Refusal}
 use Rattle.pq_top.specs.declared.answer.Refusal.TheVariants.{Text, TooLong}
 use Rattle.pq_top.specs.declared.answer.Answer.TheVariants.{Done, Usage, Refused, ReadFault, WriteFault, OutOfMemory}
 use Rattle.pq_top.specs.Device.{Moved}
-use Rattle.pq_top.specs.Request.{AskToRead, reads_by}
+use Rattle.pq_top.specs.Request.{reads_by}
 use Rattle.pq_top.specs.Outputs.{Makes}
 use Rattle.pq_top.specs.Notes.{usage_line, refusal_line, read_fault_line, write_fault_line, out_of_memory_line}
 use Rattle.pq_top.specs.Answers.{HasRead, HasRefusal, HasReadFault, HasWriteFault, IsDone, Refuses}

@@ -5,6 +5,7 @@ ghost use Rattle.pq_command.specs.Ranges.{IsInRange};
 ghost use Rattle.pq_top.specs.declared.answer.Answer.TheVariants.{OutOfMemory};
 ghost use Rattle.pq_top.specs.Device.{moved};
 ghost use Rattle.pq_top.specs.Request.{AskToMake, reads_by};
+ghost use Rattle.pq_top.specs.Log.{LogsBy, LogsFor, LogsFailure};
 ghost use Rattle.pq_top.specs.Work.{Means, LeavesSource, LeavesSink, Gives, FailsFor, FailsToRead, WritesOutput, answered_by};
 
 use crate::check::checked;
@@ -12,6 +13,7 @@ use crate::optimise::{benched, generated_text, optimised};
 use pq_command::{Settings, UsageFault, WordsError, read_words};
 use pq_io::{ByteList, ReadWhole, Sink, Source, read_whole, write_whole};
 use pq_limits::MAX_INPUT;
+use pq_loop::Receipt;
 use pq_read::{Options, ReadError};
 use pq_round::WorkGate;
 use std::alloc::{AllocError, Global};
@@ -53,14 +55,16 @@ impl From<AllocError> for Answer {
     }
 }
 
-/// Does what the words ask for: reads the text, where the command wants one, makes the output and writes it.
-#[tactic(auto, using(crate::proofs::Working::failed_means))]
+/// Does what the words ask for: reads the text, where the command wants one, makes the output and writes it. The log
+/// takes the receipts of the rounds.
+#[tactic(auto, using(crate::proofs::Working::failed_means, crate::proofs::Logging::failed_logs, crate::proofs::Logging::written_logs))]
 pub fn work<R: Threads + Sync, S: Source, K: Sink, G: WorkGate>(
     rt: &R,
     alloc: Global,
     words: &[String],
     source: &mut S,
     sink: &mut K,
+    log: &mut Vec<Receipt>,
     gate: &G,
 ) -> Answer
     ensures means { Means (map string_bytes words.now) (moved S.left S.faults source.old source.new)
@@ -68,9 +72,10 @@ pub fn work<R: Threads + Sync, S: Source, K: Sink, G: WorkGate>(
     ensures source { LeavesSource result → source.new ≡ source.old }
     ensures sink { LeavesSink result → sink.new ≡ sink.old }
     ensures untouched { AskToMake (map string_bytes words.now) → source.new ≡ source.old }
+    ensures log { LogsBy (map string_bytes words.now) (moved S.left S.faults source.old source.new) log.old.items log.new.items result }
 {
     match read_words(alloc, words) {
-        Ok(settings) => match output_of(rt, alloc, settings, source, gate) {
+        Ok(settings) => match output_of(rt, alloc, settings, source, log, gate) {
             Ok(output) => written(sink, &output),
             Err(answer) => answer,
         },
@@ -97,12 +102,15 @@ fn output_of<R: Threads + Sync, S: Source, G: WorkGate>(
     alloc: Global,
     settings: Settings,
     source: &mut S,
+    log: &mut Vec<Receipt>,
     gate: &G,
 ) -> Result<Output, Answer>
     requires { IsInRange settings }
     ensures output { IfOk result (Gives settings (moved S.left S.faults source.old source.new)) }
     ensures fault { IfErr result (FailsFor settings (moved S.left S.faults source.old source.new)) }
     ensures untouched { reads_by settings ≡ None → source.new ≡ source.old }
+    ensures log { IfOk result (LogsFor settings (moved S.left S.faults source.old source.new) log.old.items log.new.items) }
+    ensures log_at_fault { IfErr result (LogsFailure log.old.items log.new.items) }
 {
     match settings {
         Settings::Opt {
@@ -118,6 +126,7 @@ fn output_of<R: Threads + Sync, S: Source, G: WorkGate>(
                 Options { drop_barriers },
                 omega,
                 workers,
+                log,
                 gate,
             ))
         },
@@ -143,7 +152,7 @@ fn output_of<R: Threads + Sync, S: Source, G: WorkGate>(
             qubits,
             gates,
         } => {
-            let text = benched(rt, alloc, omega, workers, seed, qubits, gates, gate)?;
+            let text = benched(rt, alloc, omega, workers, seed, qubits, gates, log, gate)?;
             Ok(Output { text, found: false })
         },
     }

@@ -10,6 +10,7 @@ ghost use Rattle.pq_top.specs.Outputs.{IsAccepted};
 ghost use Rattle.pq_top.specs.Notes.{usage_line, out_of_memory_line};
 ghost use Rattle.pq_top.specs.Answers.{IsDone, IsUsage, IsRefused, IsReadFault, IsWriteFault, IsStatus, IsUnlessMemory, IsDoneUnlessMemory};
 ghost use Rattle.pq_top.specs.Work.{status_of};
+ghost use Rattle.pq_top.specs.Log.{Follows, HasLogged};
 
 mod answer;
 mod check;
@@ -25,6 +26,7 @@ use crate::notes::note;
 use pq_command::UsageFault;
 pub use pq_generate::generate;
 use pq_io::{Sink, Source};
+pub use pq_loop::Receipt;
 use pq_round::WorkGate;
 use std::alloc::Global;
 use std::thread::Threads;
@@ -35,7 +37,8 @@ use std::thread::Threads;
 /// `opt` writes the canonical text of the program with the gates that rounds leave, and then the report; `check`
 /// names the first redex within Omega, or says that there is none; `gen` writes a generated program; `bench` the
 /// report on optimising one. `source` gives the text, at most 67,108,864 bytes; `gen` and `bench` don't touch it.
-/// `notes` takes one line where the status is neither 0 nor 1.
+/// `notes` takes one line where the status is neither 0 nor 1. `log` takes the receipts of the rounds that `opt` and
+/// `bench` make, behind those that it holds.
 ///
 /// The status is 0 where the command was done, 1 where `check` found a redex, 2 where the words have a fault, 3
 /// where the text is refused, 4 where the source failed, 5 where the sink failed, and 6 where memory ran out.
@@ -47,6 +50,7 @@ pub fn run_popqc<R: Threads + Sync, S: Source, K: Sink, N: Sink, G: WorkGate>(
     source: &mut S,
     sink: &mut K,
     notes: &mut N,
+    log: &mut Vec<Receipt>,
     gate: &G,
 ) -> u8
     // What each status says.
@@ -79,12 +83,18 @@ pub fn run_popqc<R: Threads + Sync, S: Source, K: Sink, N: Sink, G: WorkGate>(
     ensures made_comes { AskToMake (map string_bytes words.now)
         → ¬ HasFaulted (moved K.held K.faults sink.old sink.new) → IsUnlessMemory result 0 }
 
+    // What the log takes.
+    ensures log { (result ≡ 0) ⊎ (result ≡ 5) → HasLogged (map string_bytes words.now)
+        (moved S.left S.faults source.old source.new) log.old.items log.new.items }
+    ensures log_keeps { Follows log.old.items log.new.items }
+
     // What stays as it was.
+    ensures log_unchanged { ¬ (result ≡ 0) → ¬ (result ≡ 5) → ¬ (result ≡ 6) → log.new.items ≡ log.old.items }
     ensures source_untouched { (result ≡ 2) ⊎ AskToMake (map string_bytes words.now) → source.new ≡ source.old }
     ensures sink_unchanged { ¬ (result ≡ 0) → ¬ (result ≡ 1) → ¬ (result ≡ 5) → sink.new ≡ sink.old }
     ensures notes_unchanged { (result ≡ 0) ⊎ (result ≡ 1) → notes.new ≡ notes.old }
 {
-    let answer = work(rt, alloc, words, source, sink, gate);
+    let answer = work(rt, alloc, words, source, sink, log, gate);
     note(notes, answer);
     status(answer)
 }

@@ -1,4 +1,4 @@
-ghost use Rattle.std.specs.Prelude.{◌≡◌, false, ◌+◌, ◌-◌, ◌*◌, ◌≤◌, length, IfOk, IfErr};
+ghost use Rattle.std.specs.Prelude.{◌≡◌, false, ◌+◌, ◌-◌, ◌*◌, ◌≤◌, length, IfOk, IfErr, OnOk};
 ghost use Rattle.pq_limits.specs.Limits.{AreQubits, AreWorkers, IsOmega};
 ghost use Rattle.pq_loop.specs.Gaps.{first_fingers};
 ghost use Rattle.pq_loop.specs.Opt.{Local};
@@ -6,6 +6,7 @@ ghost use Rattle.pq_loop.specs.Counted.{IsEndOf};
 ghost use Rattle.pq_read.specs.Reads.{IsRefusedFor};
 ghost use Rattle.pq_rules.specs.Table.{builtin_rows};
 ghost use Rattle.pq_top.specs.Outputs.{KeepsMatrix, IsOptText, IsBenchText};
+ghost use Rattle.pq_top.specs.Log.{Follows, LogsRounds, LogsText, LogsError};
 ghost use Rattle.pq_generate.specs.Generated.{generated};
 ghost use Rattle.pq_text.specs.Print.{print};
 
@@ -14,7 +15,7 @@ use pq_gate::Gate;
 use pq_generate::generate;
 use pq_io::{ByteList, OutOfMemory};
 use pq_limits::{MAX_GATES, MAX_INPUT};
-use pq_loop::{Finished, Loop};
+use pq_loop::{Finished, Loop, Receipt};
 use pq_read::{Options, Program, ReadError, read_text};
 use pq_round::WorkGate;
 use pq_rules::Rules;
@@ -23,7 +24,7 @@ use std::alloc::Global;
 use std::thread::Threads;
 
 /// The canonical text of the program that a text stands for, with the gates that rounds leave of its own, and
-/// then the report. Omega is 2 to 1,024, and 1 to 64 workers make the rounds.
+/// then the report. Omega is 2 to 1,024, and 1 to 64 workers make the rounds. The log takes the receipt of each round.
 #[tactic(auto, using(crate::proofs::Optimising::formed_with))]
 pub fn optimised<R: Threads + Sync, G: WorkGate>(
     rt: &R,
@@ -32,6 +33,7 @@ pub fn optimised<R: Threads + Sync, G: WorkGate>(
     options: Options,
     omega: u32,
     workers: u32,
+    log: &mut Vec<Receipt>,
     gate: &G,
 ) -> Result<Output, ReadError>
     requires within { length text.items ≤ MAX_INPUT }
@@ -39,11 +41,21 @@ pub fn optimised<R: Threads + Sync, G: WorkGate>(
     requires workers { AreWorkers workers }
     ensures found { IfOk result (λ output. IsOptText omega options text.items output.text.items × (output.found ≡ false)) }
     ensures refused { IfErr result (IsRefusedFor text.items options) }
+    ensures log { OnOk result (LogsText omega options text.items log.old.items log.new.items) }
+    ensures log_at_error { IfErr result (LogsError log.old.items log.new.items) }
 {
     let program = read_text(alloc, text.as_slice(), options)?;
     drop(text);
     let gates_in = program.gates.as_slice().len() as u64;
-    let finished = run_rounds(rt, alloc, program.gates.as_slice(), omega, workers, gate)?;
+    let finished = run_rounds(
+        rt,
+        alloc,
+        program.gates.as_slice(),
+        omega,
+        workers,
+        log,
+        gate,
+    )?;
     let report = report_on(gates_in, &finished);
     let program = Program {
         gates: finished.gates,
@@ -89,7 +101,7 @@ pub fn generated_text(
     write_program(alloc, &program)
 }
 
-/// The report on optimising the generated program, in rounds of so many workers.
+/// The report on optimising the generated program, in rounds of so many workers. The log takes the receipt of each.
 pub fn benched<R: Threads + Sync, G: WorkGate>(
     rt: &R,
     alloc: Global,
@@ -98,28 +110,40 @@ pub fn benched<R: Threads + Sync, G: WorkGate>(
     seed: u64,
     qubits: u32,
     gates: u32,
+    log: &mut Vec<Receipt>,
     gate: &G,
 ) -> Result<ByteList, OutOfMemory>
     requires omega { IsOmega omega }
     requires workers { AreWorkers workers }
     requires qubits { AreQubits qubits }
     requires gates { gates ≤ MAX_GATES }
-    ensures { IfOk result (λ text. IsBenchText omega seed qubits gates text.items) }
+    ensures text { IfOk result (λ text. IsBenchText omega seed qubits gates text.items) }
+    ensures log { OnOk result (LogsRounds omega (generated seed qubits gates).gates log.old.items log.new.items) }
+    ensures log_keeps { Follows log.old.items log.new.items }
 {
     let program = generate(alloc, seed, qubits, gates)?;
     let gates_in = program.gates.as_slice().len() as u64;
-    let finished = run_rounds(rt, alloc, program.gates.as_slice(), omega, workers, gate)?;
+    let finished = run_rounds(
+        rt,
+        alloc,
+        program.gates.as_slice(),
+        omega,
+        workers,
+        log,
+        gate,
+    )?;
     let report = report_on(gates_in, &finished);
     write_report(alloc, &report)
 }
 
-// Makes rounds under the built-in rules, from the first fingers until there is no finger.
+// Makes rounds under the built-in rules, from the first fingers until there is no finger, and logs their receipts.
 fn run_rounds<R: Threads + Sync, G: WorkGate>(
     rt: &R,
     alloc: Global,
     gates: &[Gate],
     omega: u32,
     workers: u32,
+    log: &mut Vec<Receipt>,
     gate: &G,
 ) -> Result<Finished, OutOfMemory>
     requires omega { IsOmega omega }
@@ -132,6 +156,8 @@ fn run_rounds<R: Threads + Sync, G: WorkGate>(
     ensures bound { IfOk result (λ finished. finished.calls
         ≤ length (first_fingers (length gates.now) omega) + 2 * (length gates.now - length finished.gates.items)) }
     ensures first_fingers { IfOk result (λ finished. finished.first_fingers ≡ length (first_fingers (length gates.now) omega)) }
+    ensures log { OnOk result (LogsRounds omega gates.now log.old.items log.new.items) }
+    ensures log_keeps { Follows log.old.items log.new.items }
 {
     let rules = Rules::builtin(alloc)?;
 
@@ -139,7 +165,8 @@ fn run_rounds<R: Threads + Sync, G: WorkGate>(
     let _count = rules.count();
     let mut looping = Loop::open(alloc, gates, omega, rules)?;
     'rounds: while !looping.is_done() {
-        let (next, _step) = looping.round(rt, alloc, workers, gate)?;
+        let (next, _step, receipt) = looping.round(rt, alloc, workers, gate)?;
+        log.push(receipt)?;
         looping = next;
     }
     looping.finish(alloc)

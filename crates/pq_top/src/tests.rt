@@ -1,6 +1,6 @@
 ghost use Rattle.std.specs.Prelude.{◌<◌};
 
-use crate::{ArgumentFault, refuse_arguments, run_popqc};
+use crate::{ArgumentFault, Receipt, refuse_arguments, run_popqc};
 use pq_io::{ByteList, MemSink, MemSource, PlaceList};
 use pq_round::OpenGate;
 use std::alloc::{AllocError, Global};
@@ -25,6 +25,9 @@ const FAR_H: &str = "OPENQASM 2.0;\ninclude \"qelib1.inc\";\nqreg q[4];\n\
 
 const BARRIER_INSIDE: &str =
     "OPENQASM 2.0;\ninclude \"qelib1.inc\";\nqreg q[1];\nh q[0];\nbarrier q;\nh q[0];\n";
+
+const EIGHT_GATES: &str = "OPENQASM 2.0;\ninclude \"qelib1.inc\";\nqreg q[4];\n\
+    h q[0];\nh q[0];\nt q[1];\ns q[1];\nt q[2];\ns q[2];\nh q[3];\nh q[3];\n";
 
 const FIVE_GATES: &str = "OPENQASM 2.0;\ninclude \"qelib1.inc\";\nqreg q[2];\n\
     cx q[1],q[0];\nsdg q[0];\ncx q[1],q[0];\nsdg q[1];\ns q[1];\n";
@@ -65,13 +68,29 @@ fn words_of(alloc: Global, words: &[&str]) -> Result<Vec<String>, AllocError> {
     Ok(list)
 }
 
-// Runs the words on the text, with steps and failing calls of the source and the sink.
+// Runs the words on the text, with steps and failing calls of the source and the sink, and an empty log.
 fn run(
     rt: &(impl AllocGlobal + Threads + Sync),
     words: &[&str],
     text: &str,
     source: Device,
     sink: Device,
+) -> Result<Outcome, AllocError>
+    requires source { 0 < source.step }
+    requires sink { 0 < sink.step }
+{
+    let mut log = Vec::new(rt.alloc());
+    run_logging(rt, words, text, source, sink, &mut log)
+}
+
+// The same with a log.
+fn run_logging(
+    rt: &(impl AllocGlobal + Threads + Sync),
+    words: &[&str],
+    text: &str,
+    source: Device,
+    sink: Device,
+    log: &mut Vec<Receipt>,
 ) -> Result<Outcome, AllocError>
     requires source { 0 < source.step }
     requires sink { 0 < sink.step }
@@ -89,6 +108,7 @@ fn run(
         &mut source,
         &mut sink,
         &mut notes,
+        log,
         &OpenGate,
     );
     Ok(Outcome {
@@ -269,6 +289,45 @@ fn rounds_go_on_where_gates_went_away(rt: HostRuntime) -> Result<(), Fail> {
     ] {
         leaves(&rt, omega, gates, left, numbers)?;
     }
+    Ok(())
+}
+
+// Optimises the text with Omega 2, which adds receipts to the log. These are wanted in it: jobs, claimed, opened, closed.
+fn logs(
+    rt: &(impl Abort + AllocGlobal + Threads + Sync),
+    log: &mut Vec<Receipt>,
+    text: &str,
+    want: &[[u64; 4]],
+) -> Result<(), AllocError> {
+    let outcome = run_logging(rt, &["opt", "--omega", "2"], text, WHOLE, WHOLE, log)?;
+    assert_eq!(rt; outcome.status, 0);
+    assert_eq!(rt; log.len(), want.len());
+    for (receipt, numbers) in log.iter().zip(want) {
+        assert_eq!(rt; receipt.jobs(), numbers[0]);
+        assert_eq!(rt; receipt.claimed(), numbers[1]);
+        assert_eq!(rt; receipt.opened(), numbers[2]);
+        assert_eq!(rt; receipt.closed(), numbers[3]);
+    }
+    Ok(())
+}
+
+#[test]
+fn each_round_leaves_its_receipt_behind_those_there_were(rt: HostRuntime) -> Result<(), Fail> {
+    let mut log = Vec::new(rt.alloc());
+    logs(
+        &rt,
+        &mut log,
+        EIGHT_GATES,
+        &[[2, 2, 8, 6], [2, 2, 6, 4], [1, 1, 4, 4]],
+    )?;
+    let mut log = Vec::new(rt.alloc());
+    logs(&rt, &mut log, TWO_H, &[[1, 1, 2, 0]])?;
+    logs(
+        &rt,
+        &mut log,
+        EIGHT_GATES,
+        &[[1, 1, 2, 0], [2, 2, 8, 6], [2, 2, 6, 4], [1, 1, 4, 4]],
+    )?;
     Ok(())
 }
 

@@ -9,7 +9,7 @@ use Rattle.pq_method.specs.Round.{cut_of, joined}
 use Rattle.pq_round.specs.Results.{AreResults, all_given_up}
 use Rattle.pq_loop.specs.Segments.{stands, works_in}
 use Rattle.pq_loop.proofs.Assembling.{found_told, count_found, cuts_in_order, settled_inside, round_is, moved_stand, results_few}
-use Rattle.pq_loop.proofs.Rejoining.{tree_after}
+use Rattle.pq_loop.proofs.Rejoining.{tree_after, round_receipt}
 use Rattle.pq_loop.proofs.one_round.work_round.Goals as goal
 
 pub cuts_of-requires : goal.cuts_of-requires
@@ -79,3 +79,21 @@ returns-clause-round g c =
 
 pub returns-clause-stand : goal.returns-clause-stand
 returns-clause-stand g c = moved_stand c.in_ok-fingers.ensures
+
+pub returns-clause-receipt : goal.returns-clause-receipt
+returns-clause-receipt g c =
+    let got = subst (λ (cells : List (Option Gate)). AreResults cells c.in_ok-segments.segments.jobs c.args.rules.now c.in_ok-worked.worked.items) c.split_words-cells.ensures.cells c.in_ok-worked.ensures.results in
+    round_receipt c.args.array c.put.new.cells c.rejoin-array.result c.split_words-cells.result.1.items c.in_ok-worked.closed.words.items
+    c.in_ok-segments.segments.jobs c.split_words-cells.ensures.words (tree_after c.args.array c.split_words-cells.result.0 c.put.new.cells c.split_words-cells.result.1.items c.in_ok-worked.closed.words.items
+    (all_given_up c.in_ok-segments.segments.jobs c.in_ok-worked.worked.items) (all_given_up c.in_ok-worked.closed.jobs c.as_slice-results.result.now)
+    c.split_words-cells.ensures.words c.split_words-cells.ensures.cells c.put.ensures.size c.in_ok-worked.ensures.size
+    (ap₂ (λ (j : List (List ℕ)) (r : List WorkedView). all_given_up j r) c.in_ok-worked.ensures.jobs c.as_slice-results.ensures)
+    c.put.ensures.gone c.in_ok-worked.ensures.counts)
+    c.rejoin-array.ensures
+    (omega (
+      arith,
+      c.step_of-step.ensures.numbers.selected_is,
+      count_found c.in_ok-segments.ensures.segments c.as_slice-results.ensures got,
+      c.in_ok-segments.ensures.segments.jobs.count,
+    ))
+    c.in_ok-worked.ensures.receipt

@@ -1,4 +1,6 @@
 use Rattle.std.proofs.Common.{refl, ap, length}
+use Rattle.pq_read.specs.Environment.{view}
+use Rattle.pq_top.proofs.Logging.{rounds_of}
 use Rattle.pq_top.proofs.Optimising.{opt_text_by}
 use Rattle.pq_top.proofs.optimise.optimised.Goals as goal
 
@@ -12,3 +14,11 @@ returns-clause-found g c =
           left.bound left.first_fingers c.report_on-report.ensures c.in_ok-text.ensures,
       refl,
     )
+
+pub returns-clause-log : goal.returns-clause-log
+returns-clause-log g c =
+    record {
+      program = view c.in_ok-program.program;
+      read = rw c.as_slice.ensures at c.in_ok-program.ensures.read;
+      rounds = rounds_of c.args.omega c.as_slice-3.result.now _ _ _ c.as_slice-3.ensures c.in_ok-finished.ensures.log;
+    }
