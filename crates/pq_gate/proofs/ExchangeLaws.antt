@@ -1,85 +1,17 @@
 use Rattle.std.proofs.Common.{◌≡◌, ◌≢◌, ℕ, Bool, true, false, List, set, ◌⊎◌, inl, inr, ⊎_elim, refl, ap, sym, subst, ◌∙◌}
 use Rattle.std.proofs.lemmas.List.{set_comm, get_or-set_other}
-use Rattle.std.proofs.lemmas.Bool.{cases_eq}
 use Rattle.pq_gate.specs.declared.gate.Gate.{Gate}
-use Rattle.pq_gate.specs.declared.gate.Gate.TheVariants.{H, X, Phase, Cx}
 use Rattle.pq_gate.specs.declared.ring.Ring.{Ring}
 use Rattle.pq_gate.specs.Bits.{bit, toggled}
 use Rattle.pq_gate.specs.Circuit.{IsOnWires}
 use Rattle.pq_gate.specs.Commuting.{Touches, AlongZ, AlongX, Commutes}
-use Rattle.pq_gate.specs.Eighths.{eighths_of}
 use Rattle.pq_gate.specs.Matrix.{through}
 use Rattle.pq_gate.specs.Ring.{plus, turned_if}
 use Rattle.pq_gate.proofs.ActLaws.{turned_if-plus}
 use Rattle.pq_gate.proofs.BitLaws.{toggled_comm, toggled-set, bit-toggled_other}
+use Rattle.pq_gate.proofs.GateFacts.{form_of, gate_facts}
+use Rattle.pq_gate.proofs.GateForms.{Form, turns, flips, mixes, by_form, Ignores, NotAlongX, NotAlongZ, Reads, Fits}
 use Rattle.pq_gate.proofs.RingLaws.{plus_swap, turned_comm}
-
--- A gate turns a state where a condition holds, or changes one wire where a condition holds, or mixes
--- the two values of one wire.
-data Form : Type 0 where
-  turns : (List Bool → Bool) → ℕ → Form
-  flips : ℕ → (List Bool → Bool) → Form
-  mixes : ℕ → Form
-
-abbrev form_of : Gate → Form
-form_of (H w) = mixes w
-form_of (X w) = flips w (λ x. true)
-form_of (Phase k w) = turns (λ x. bit x w) (eighths_of k)
-form_of (Cx c t) = flips t (λ x. bit x c)
-
--- what a gate of this form does at a state
-abbrev by_form : Form → (List Bool → Ring) → List Bool → Ring
-by_form (turns p k) f x = turned_if (p x) k (f x)
-by_form (flips w p) f x = f (toggled x w (p x))
-by_form (mixes w) f x = plus (f (set x w false)) (turned_if (bit x w) 4 (f (set x w true)))
-
-through-by_form : (g : Gate) (f : List Bool → Ring) (x : List Bool) → through g f x ≡ by_form (form_of g) f x
-through-by_form (H w) f x = refl
-through-by_form (X w) f x = refl
-through-by_form (Phase k w) f x = refl
-through-by_form (Cx c t) f x = refl
-
--- the condition doesn't depend on the wire
-abbrev Ignores : (List Bool → Bool) → ℕ → Type 0
-Ignores p w = (x : List Bool) (b : Bool) → p (set x w b) ≡ p x
-
--- the gate uses the wire, and not along X
-record NotAlongX (g : Gate) (w : ℕ) : Type 0 where
-  uses : Touches g w
-  not : AlongX g w → ⊥
-
--- the gate uses the wire, and not along Z
-record NotAlongZ (g : Gate) (w : ℕ) : Type 0 where
-  uses : Touches g w
-  not : AlongZ g w → ⊥
-
--- the gate's condition depends only on wires that the gate uses along Z alone
-abbrev Reads : Gate → (List Bool → Bool) → Type 0
-Reads g p = (w : ℕ) → Ignores p w ⊎ NotAlongX g w
-
-reads_none : (g : Gate) → Reads g (λ x. true)
-reads_none g w = inl (λ x b. refl)
-
--- the value of a wire on which the gate acts, but not along X
-reads_bit : (g : Gate) (v : ℕ) → NotAlongX g v → Reads g (λ x. bit x v)
-reads_bit g v along w =
-    ⊎_elim
-    (λ (is : v ≡ w). inr (subst (NotAlongX g) is along))
-    (λ (differ : v ≢ w). inl (λ x b. get_or-set_other x w v b false differ))
-    (cases_eq v w)
-
--- what the form says of the gate
-abbrev Fits : Gate → Form → Type 0
-Fits g (turns p k) = Reads g p
-Fits g (flips w p) = NotAlongZ g w × Reads g p
-Fits g (mixes w) = NotAlongZ g w × NotAlongX g w
-
-form_fits : (n : ℕ) (g : Gate) → IsOnWires n g → Fits g (form_of g)
-form_fits n (H w) is = (record { uses = refl; not = λ e. e }, record { uses = refl; not = λ e. e })
-form_fits n (X w) is = (record { uses = refl; not = λ e. e }, reads_none (X w))
-form_fits n (Phase k w) is = reads_bit (Phase k w) w (record { uses = refl; not = λ e. e })
-form_fits n (Cx c t) is =
-    (record { uses = inr refl; not = λ e. is.2 (sym e) }, reads_bit (Cx c t) c (record { uses = inl refl; not = is.2 }))
 
 -- a wire that one of two commuting gates uses, but not along X, and the other, but not along Z
 clash : (g h : Gate) (w : ℕ) → Commutes g h → NotAlongX g w → NotAlongZ h w → ⊥
@@ -189,8 +121,6 @@ forms_exchange g h (mixes v) (mixes w) commutes left right f x = mixes_mixes v w
 pub through_exchange : (n : ℕ) (g h : Gate) → IsOnWires n g → IsOnWires n h → Commutes g h → (f : List Bool → Ring) →
     through g (through h f) ≡ through h (through g f)
 through_exchange n g h g_on h_on commutes f i x =
-    (through-by_form g (through h f) x ∙
-    ap (λ (k : List Bool → Ring). by_form (form_of g) k x) (λ j z. through-by_form h f z j) ∙
-    forms_exchange g h (form_of g) (form_of h) commutes (form_fits n g g_on) (form_fits n h h_on) f x ∙
-    ap (λ (k : List Bool → Ring). by_form (form_of h) k x) (λ j z. sym (through-by_form g f z) j) ∙
-    sym (through-by_form h (through g f) x)) i
+    ((λ j. (gate_facts g).acts j ((gate_facts h).acts j f) x) ∙
+    forms_exchange g h (form_of g) (form_of h) commutes ((gate_facts g).fits n g_on) ((gate_facts h).fits n h_on) f x ∙
+    (λ j. sym (gate_facts h).acts j (sym (gate_facts g).acts j f) x)) i
