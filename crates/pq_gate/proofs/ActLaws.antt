@@ -6,7 +6,7 @@ use Rattle.pq_gate.specs.Bits.{bit, same_bits}
 use Rattle.pq_gate.specs.Ring.{nought, one, plus, turn, turned, rooted, turned_if}
 use Rattle.pq_gate.specs.Matrix.{through, Entry, h_count}
 use Rattle.pq_gate.proofs.GateFacts.{form_of, gate_facts}
-use Rattle.pq_gate.proofs.GateForms.{Form, turns, flips, mixes, by_form}
+use Rattle.pq_gate.proofs.GateForms.{Form, turns, flips, mixes, by_form, all_on}
 use Rattle.pq_gate.proofs.RingLaws.{plus_swap, turned-plus, turned-turn, rooted-plus, rooted-turn}
 
 -- a map of the ring that keeps sums and ω, and so all of the ring's multiples
@@ -34,8 +34,8 @@ turned_if-plus false k r s = refl
 
 form-linear : {m : Ring → Ring} → IsLinear m → (a : Form) (f : List Bool → Ring) (x : List Bool) →
     by_form a (λ z. m (f z)) x ≡ m (by_form a f x)
-form-linear linear (turns p k) f x = sym (linear-turned_if linear (p x) k (f x))
-form-linear linear (flips w p) f x = refl
+form-linear linear (turns ws k) f x = sym (linear-turned_if linear (all_on ws x) k (f x))
+form-linear linear (flips w ws) f x = refl
 form-linear {m} linear (mixes w) f x =
     let low : Ring = f (set x w false) in
     let high : Ring = f (set x w true) in
@@ -50,8 +50,8 @@ through-linear {m} linear g f x =
 
 form-plus : (a : Form) (f h : List Bool → Ring) (x : List Bool) →
     by_form a (λ z. plus (f z) (h z)) x ≡ plus (by_form a f x) (by_form a h x)
-form-plus (turns p k) f h x = turned_if-plus (p x) k (f x) (h x)
-form-plus (flips w p) f h x = refl
+form-plus (turns ws k) f h x = turned_if-plus (all_on ws x) k (f x) (h x)
+form-plus (flips w ws) f h x = refl
 form-plus (mixes w) f h x =
     let f0 : Ring = f (set x w false) in
     let f1 : Ring = f (set x w true) in
@@ -69,8 +69,8 @@ through-plus g f h x =
 
 form_reads : (n : ℕ) (a : Form) (f h : List Bool → Ring) → ((z : List Bool) → length z ≡ n → f z ≡ h z) →
     (x : List Bool) → length x ≡ n → by_form a f x ≡ by_form a h x
-form_reads n (turns p k) f h agree x is = ap (turned_if (p x) k) (agree x is)
-form_reads n (flips w p) f h agree x is = agree _ (length-set x w _ ∙ is)
+form_reads n (turns ws k) f h agree x is = ap (turned_if (all_on ws x) k) (agree x is)
+form_reads n (flips w ws) f h agree x is = agree _ (length-set x w _ ∙ is)
 form_reads n (mixes w) f h agree x is =
     let low : f (set x w false) ≡ h (set x w false) = agree _ (length-set x w false ∙ is) in
     let high : f (set x w true) ≡ h (set x w true) = agree _ (length-set x w true ∙ is) in

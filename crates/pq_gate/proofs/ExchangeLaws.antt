@@ -1,4 +1,4 @@
-use Rattle.std.proofs.Common.{◌≡◌, ◌≢◌, ℕ, Bool, true, false, List, set, ◌⊎◌, inl, inr, ⊎_elim, refl, ap, sym, subst, ◌∙◌}
+use Rattle.std.proofs.Common.{◌≡◌, ◌≢◌, ℕ, Bool, true, false, List, set, inl, inr, ⊎_elim, refl, ap, sym, subst, ◌∙◌}
 use Rattle.std.proofs.lemmas.List.{set_comm, get_or-set_other}
 use Rattle.pq_gate.specs.declared.gate.Gate.{Gate}
 use Rattle.pq_gate.specs.declared.ring.Ring.{Ring}
@@ -10,7 +10,7 @@ use Rattle.pq_gate.specs.Ring.{plus, turned_if}
 use Rattle.pq_gate.proofs.ActLaws.{turned_if-plus}
 use Rattle.pq_gate.proofs.BitLaws.{toggled_comm, toggled-set, bit-toggled_other}
 use Rattle.pq_gate.proofs.GateFacts.{form_of, gate_facts}
-use Rattle.pq_gate.proofs.GateForms.{Form, turns, flips, mixes, by_form, Ignores, NotAlongX, NotAlongZ, Reads, Fits}
+use Rattle.pq_gate.proofs.GateForms.{Form, turns, flips, mixes, all_on, by_form, Ignores, ignores_others, NotAlongX, NotAlongZ, Reads, Fits}
 use Rattle.pq_gate.proofs.RingLaws.{plus_swap, turned_comm}
 
 -- a wire that one of two commuting gates uses, but not along X, and the other, but not along Z
@@ -25,9 +25,8 @@ Commutes-symmetric g h commutes w right left =
     (commutes w left right)
 
 -- so the condition doesn't depend on what the other gate changes
-ignores : (g h : Gate) (w : ℕ) (p : List Bool → Bool) → Commutes g h → Reads g p → NotAlongZ h w → Ignores p w
-ignores g h w p commutes reads right =
-    ⊎_elim (λ (free : Ignores p w). free) (λ (left : NotAlongX g w). absurd (clash g h w commutes left right)) (reads w)
+ignores : (g h : Gate) (w : ℕ) (p : List ℕ) → Commutes g h → Reads g p → NotAlongZ h w → Ignores p w
+ignores g h w p commutes reads right = ignores_others p w (λ is. clash g h w commutes (reads w is) right)
 
 -- and a wire that is mixed is another one
 apart : (g h : Gate) (v w : ℕ) → Commutes g h → NotAlongZ g v → NotAlongZ h w → NotAlongX h w → v ≢ w
@@ -41,39 +40,39 @@ turned_if_comm true false j k r = refl
 turned_if_comm false true j k r = refl
 turned_if_comm false false j k r = refl
 
-turns_turns : (p q : List Bool → Bool) (j k : ℕ) (f : List Bool → Ring) (x : List Bool) →
+turns_turns : (p q : List ℕ) (j k : ℕ) (f : List Bool → Ring) (x : List Bool) →
     by_form (turns p j) (by_form (turns q k) f) x ≡ by_form (turns q k) (by_form (turns p j) f) x
-turns_turns p q j k f x = turned_if_comm (p x) (q x) j k (f x)
+turns_turns p q j k f x = turned_if_comm (all_on p x) (all_on q x) j k (f x)
 
-turns_flips : (p q : List Bool → Bool) (j w : ℕ) → Ignores p w → (f : List Bool → Ring) (x : List Bool) →
+turns_flips : (p q : List ℕ) (j w : ℕ) → Ignores p w → (f : List Bool → Ring) (x : List Bool) →
     by_form (turns p j) (by_form (flips w q) f) x ≡ by_form (flips w q) (by_form (turns p j) f) x
-turns_flips p q j w free f x = ap (λ (b : Bool). turned_if b j (f (toggled x w (q x)))) (sym (free x _))
+turns_flips p q j w free f x = ap (λ (b : Bool). turned_if b j (f (toggled x w (all_on q x)))) (sym (free x _))
 
-turns_mixes : (p : List Bool → Bool) (j w : ℕ) → Ignores p w → (f : List Bool → Ring) (x : List Bool) →
+turns_mixes : (p : List ℕ) (j w : ℕ) → Ignores p w → (f : List Bool → Ring) (x : List Bool) →
     by_form (turns p j) (by_form (mixes w) f) x ≡ by_form (mixes w) (by_form (turns p j) f) x
 turns_mixes p j w free f x =
     let low : Ring = f (set x w false) in
     let high : Ring = f (set x w true) in
-    turned_if-plus (p x) j low (turned_if (bit x w) 4 high) ∙
-    ap (plus (turned_if (p x) j low)) (turned_if_comm (p x) (bit x w) j 4 high) ∙
-    (let off : p x ≡ p (set x w false) = sym (free x false) in
-    let on : p x ≡ p (set x w true) = sym (free x true) in
+    turned_if-plus (all_on p x) j low (turned_if (bit x w) 4 high) ∙
+    ap (plus (turned_if (all_on p x) j low)) (turned_if_comm (all_on p x) (bit x w) j 4 high) ∙
+    (let off : all_on p x ≡ all_on p (set x w false) = sym (free x false) in
+    let on : all_on p x ≡ all_on p (set x w true) = sym (free x true) in
     λ i. plus (turned_if (off i) j low) (turned_if (bit x w) 4 (turned_if (on i) j high)))
 
-flips_flips : (p q : List Bool → Bool) (v w : ℕ) → Ignores p w → Ignores q v → (f : List Bool → Ring) (x : List Bool) →
+flips_flips : (p q : List ℕ) (v w : ℕ) → Ignores p w → Ignores q v → (f : List Bool → Ring) (x : List Bool) →
     by_form (flips v p) (by_form (flips w q) f) x ≡ by_form (flips w q) (by_form (flips v p) f) x
 flips_flips p q v w p_free q_free f x =
     ap f
-    (ap (toggled (toggled x v (p x)) w) (q_free x _) ∙ toggled_comm x v w (p x) (q x) ∙
-    ap (toggled (toggled x w (q x)) v) (sym (p_free x _)))
+    (ap (toggled (toggled x v (all_on p x)) w) (q_free x _) ∙ toggled_comm x v w (all_on p x) (all_on q x) ∙
+    ap (toggled (toggled x w (all_on q x)) v) (sym (p_free x _)))
 
-flips_mixes : (p : List Bool → Bool) (v w : ℕ) → v ≢ w → Ignores p w → (f : List Bool → Ring) (x : List Bool) →
+flips_mixes : (p : List ℕ) (v w : ℕ) → v ≢ w → Ignores p w → (f : List Bool → Ring) (x : List Bool) →
     by_form (flips v p) (by_form (mixes w) f) x ≡ by_form (mixes w) (by_form (flips v p) f) x
 flips_mixes p v w differ free f x =
-    let at = λ (b : Bool). ap (toggled (set x w b) v) (free x b) ∙ toggled-set x v w (p x) b differ in
-    let low : toggled (set x w false) v (p (set x w false)) ≡ set (toggled x v (p x)) w false = at false in
-    let high : toggled (set x w true) v (p (set x w true)) ≡ set (toggled x v (p x)) w true = at true in
-    let own : bit (toggled x v (p x)) w ≡ bit x w = bit-toggled_other x v w (p x) (λ is. differ (sym is)) in
+    let at = λ (b : Bool). ap (toggled (set x w b) v) (free x b) ∙ toggled-set x v w (all_on p x) b differ in
+    let low : toggled (set x w false) v (all_on p (set x w false)) ≡ set (toggled x v (all_on p x)) w false = at false in
+    let high : toggled (set x w true) v (all_on p (set x w true)) ≡ set (toggled x v (all_on p x)) w true = at true in
+    let own : bit (toggled x v (all_on p x)) w ≡ bit x w = bit-toggled_other x v w (all_on p x) (λ is. differ (sym is)) in
     sym (λ i. plus (f (low i)) (turned_if (sym own i) 4 (f (high i))))
 
 mixes_mixes : (v w : ℕ) → v ≢ w → (f : List Bool → Ring) (x : List Bool) →

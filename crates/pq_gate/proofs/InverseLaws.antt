@@ -8,7 +8,7 @@ use Rattle.pq_gate.specs.Matrix.{h_count, roots_of, Same}
 use Rattle.pq_gate.specs.Ring.{turned_if, rooted}
 use Rattle.pq_gate.proofs.BitLaws.{toggled-toggled}
 use Rattle.pq_gate.proofs.GateFacts.{form_of, gate_facts}
-use Rattle.pq_gate.proofs.GateForms.{Form, turns, flips, mixes, by_form, undoing, roots_by, Fits}
+use Rattle.pq_gate.proofs.GateForms.{Form, turns, flips, mixes, all_on, by_form, undoing, roots_by, roots_undoing, ignores_others, Fits}
 use Rattle.pq_gate.proofs.PairLaws.{H_twice, within}
 use Rattle.pq_gate.proofs.RingLaws.{turned_comm, turned_back}
 use Rattle.pq_gate.proofs.SameLaws.{Same-from_acts}
@@ -22,16 +22,11 @@ turned_if_back false k r = refl
 -- a form and the one that undoes it
 form_undone : (n : ℕ) (g : Gate) → IsOnWires n g → (a : Form) → Fits g a → (f : List Bool → Ring) (x : List Bool) → length x ≡ n →
     by_form a (by_form (undoing a) f) x ≡ rooted (roots_by a + roots_by a) (f x)
-form_undone n g on (turns p k) fits f x is = turned_if_back (p x) k (f x)
-form_undone n g on (flips w p) fits f x is =
-    ap (λ (b : Bool). f (toggled (toggled x w (p x)) w b)) (fits.2 x _) ∙
-    ap f (toggled-toggled x w (p x) (within (wire_below n g on w fits.0.uses) x is))
+form_undone n g on (turns ws k) fits f x is = turned_if_back (all_on ws x) k (f x)
+form_undone n g on (flips w ws) fits f x is =
+    ap (λ (b : Bool). f (toggled (toggled x w (all_on ws x)) w b)) (ignores_others ws w fits.2 x _) ∙
+    ap f (toggled-toggled x w (all_on ws x) (within (wire_below n g on w fits.0.uses) x is))
 form_undone n g on (mixes w) fits f x is = H_twice w f x (within (wire_below n g on w fits.0.uses) x is)
-
-roots_undoing : (a : Form) → roots_by (undoing a) ≡ roots_by a
-roots_undoing (turns p k) = refl
-roots_undoing (flips w p) = refl
-roots_undoing (mixes w) = refl
 
 -- the inverse has as many factors √2
 roots_inverse : (g : Gate) → roots_of (inverse_of g) ≡ roots_by (form_of g)

@@ -1,5 +1,5 @@
 -- The wires and the ports of a gate.
-use Rattle.std.proofs.Common.{◌≡◌, ℕ, ◌<◌, Bool, true, false, List, map, ◌⊎◌, inl, inr, ⊎_elim, refl, sym, subst, ◌∙◌}
+use Rattle.std.proofs.Common.{◌≡◌, ℕ, ◌<◌, ◌≤◌, Bool, true, false, List, map, length, ◌⊎◌, inl, inr, ⊎_elim, refl, sym, subst, ◌∙◌, arith}
 use Rattle.std.specs.Prelude.{◌↔◌, IsTrue}
 use Rattle.pq_gate.specs.declared.gate.Gate.{Gate}
 use Rattle.pq_gate.specs.declared.ports.Port.{Port}
@@ -37,6 +37,16 @@ all_below : (n : ℕ) (ports : Ports) → AreOn n (wires_at (listed_ports ports)
 all_below n (One only) on w is = subst (λ (v : ℕ). v < n) (sym is) on
 all_below n (Two first last) on w (inl is) = subst (λ (v : ℕ). v < n) (sym is) on.0
 all_below n (Two first last) on w (inr is) = subst (λ (v : ℕ). v < n) (sym is) on.1
+
+one_or_two : (ports : Ports) → length (wires_at (listed_ports ports)) ≤ 2
+one_or_two (One only) = omega arith
+one_or_two (Two first last) = omega arith
+
+-- a gate has at most two wires
+pub few_wires : (g : Gate) → length (wires_of g) ≤ 2
+few_wires g =
+    let facts = gate_facts g in
+    subst (λ (ports : List Port). length (wires_at ports) ≤ 2) facts.listed (one_or_two facts.ports)
 
 -- the wires of a circuit's gate are the circuit's
 pub wire_below : (n : ℕ) (g : Gate) → IsOnWires n g → (w : ℕ) → Touches g w → w < n

@@ -1,4 +1,3 @@
-use Rattle.std.proofs.Common.{[]}
 use Rattle.pq_gate.specs.declared.gate.Gate.TheVariants.{H, X, Cx}
 use Rattle.pq_gate.proofs.InverseLaws.{same_inverse}
 use Rattle.pq_gate.proofs.laws.pairs_do_nothing.Goals as goal
