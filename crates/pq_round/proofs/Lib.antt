@@ -1,5 +1,5 @@
 pub mod Gathering
-pub mod Sharing
-pub mod Crewing
+pub mod InOrder
 pub mod Working
 pub mod Surveyed
+pub mod Trials

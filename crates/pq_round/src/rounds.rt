@@ -1,17 +1,17 @@
-ghost use Rattle.std.specs.Prelude.{◌≡◌, ◌*◌, ◌≤◌, length, IfOk, All};
+ghost use Rattle.std.specs.Prelude.{◌≡◌, ◌*◌, ◌≤◌, length, IfOk, All, IsPermutation};
+ghost use Rattle.std.specs.List.Sorted.{IsNonDecreasingBy};
 ghost use Rattle.pq_limits.specs.Limits.{IsOmega, AreWorkers};
 ghost use Rattle.pq_array.specs.Cells.{IsLive};
 ghost use Rattle.pq_board.specs.Law.{stake, late};
 ghost use Rattle.pq_board.specs.Steps.{BelongsTo, HoldAll, unused, lowered_places};
 ghost use Rattle.pq_round.specs.Results.{AreResults, AreSameNumbers, all_given_up};
 
-use crate::crew::in_order;
 use crate::gate::WorkGate;
-use crate::workers::{Shop, work_by};
+use crate::workers::{RoundContext, work_by};
 use pq_array::Cells;
 use pq_board::{Board, Pass};
 use pq_list::OutOfMemory;
-use pq_oracle::WorkedList;
+use pq_oracle::{Worked, WorkedList};
 use pq_rules::Rules;
 use std::alloc::Global;
 use std::thread::Threads;
@@ -61,14 +61,14 @@ pub fn run_round<'r, R: Threads + Sync, G: WorkGate>(
     let _rows = rules.count();
     let mut pass = pass;
     let threads = threads_for(board.job_count(), workers);
-    let shop = Shop {
+    let context = RoundContext {
         cells,
         board: &board,
         rules,
         omega,
         gate,
     };
-    match work_by(rt, alloc, &shop, &mut pass, threads) {
+    match work_by(rt, alloc, &context, &mut pass, threads) {
         Ok(results) => {
             board.survey(&mut pass);
             let results = in_order(results);
@@ -92,4 +92,14 @@ fn threads_for(jobs: u64, workers: u32) -> u32
     ensures enough { result ≤ workers }
 {
     u64::from(workers).min(jobs).max(1) as u32
+}
+
+/// The results in the order of their tickets.
+fn in_order(results: Vec<Worked>) -> WorkedList
+    ensures permutation { IsPermutation results.entry.items result.items }
+    ensures sorted { IsNonDecreasingBy (λ worked. worked.ticket) result.items }
+{
+    let mut list = results;
+    list.sort_unstable_by_key(|worked| worked.ticket());
+    WorkedList::of(list)
 }

@@ -1,7 +1,7 @@
 use Rattle.std.proofs.Common.{sym, subst}
 use Rattle.pq_board.specs.Steps.{Held, lowered_places}
 use Rattle.pq_round.specs.Results.{all_given_up, AreSameNumbers}
-use Rattle.pq_round.proofs.Crewing.{results_in_order}
+use Rattle.pq_round.proofs.InOrder.{results_in_order}
 use Rattle.pq_round.proofs.Surveyed.{all_worked, lowered_same}
 use Rattle.pq_round.proofs.rounds.run_round.Goals as goal
 

@@ -1,25 +1,21 @@
--- The results of several workers together, and in order.
-use Rattle.std.proofs.Common.{arith, ◌≡◌, ℕ, zero, suc, ◌+◌, ◌-◌, ◌<◌, ◌≤◌, ◌==◌, ◌&&◌, Bool, true, false, cond, nat_lt, nat_le, List, [], ◌∷◌, ◌++◌, map, length, get_or, Option, refl, sym, ap, ap₂, ◌∙◌, subst, ⊎_elim}
+-- The results of all workers in the order of their tickets.
+use Rattle.std.proofs.Common.{arith, ◌≡◌, ℕ, zero, suc, ◌+◌, ◌-◌, ◌<◌, ◌≤◌, ◌==◌, ◌&&◌, Bool, true, false, cond, nat_lt, nat_le, All, List, [], ◌∷◌, map, length, get_or, Option, refl, sym, ap, ap₂, ◌∙◌, subst, ⊎_elim}
 use Rattle.std.specs.List.{count_by}
 use Rattle.std.specs.List.Sorted.{IsPermutation, IsNonDecreasing, IsNonDecreasingBy}
 use Rattle.std.proofs.lemmas.Bool.{cases_lt, lt-ltb, le-leb}
-use Rattle.std.proofs.lemmas.List.{map-append, get_or-map, length-map}
-use Rattle.std.proofs.lemmas.List.Elements.{All-append}
-use Rattle.std.proofs.lemmas.List.Sums.{sum_by-append, sum_by-cons}
+use Rattle.std.proofs.lemmas.List.{get_or-map, length-map}
+use Rattle.std.proofs.lemmas.List.Sums.{sum_by-cons}
 use Rattle.std.proofs.lemmas.List.Sorted.{IsPermutation-map, sum_by-IsPermutation, All-permutation}
 use Rattle.pq_gate.specs.declared.gate.Gate.{Gate}
 use Rattle.pq_rules.specs.Row.{RowView}
 use Rattle.pq_oracle.specs.Outcomes.{WorkedView}
 use Rattle.pq_round.specs.Results.{IsResultOf, AreResults}
-use Rattle.pq_round.specs.Shares.{StandOnce, AreParted}
-use Rattle.pq_round.specs.Crews.{IsOfItsJob, AreResultsOf}
-use Rattle.pq_round.specs.declared.crew.Task.{Task}
+use Rattle.pq_round.specs.Workers.{IsOfItsJob}
 
--- two parts of tickets, one after the other
-pub once_append : (whole front back : ℕ → Bool) (xs ys : List ℕ) → AreParted whole front back → StandOnce front xs → StandOnce back ys → StandOnce whole (xs ++ ys)
-once_append whole front back xs ys parted one two n =
-    sum_by-append (λ (ticket : ℕ). cond (ticket == n) 1 0) xs ys ∙ ap (λ (k : ℕ). k + count_by (λ (ticket : ℕ). ticket == n) ys) (one n)
-    ∙ ap (λ (k : ℕ). cond (front n) 1 0 + k) (two n) ∙ sym (parted n)
+-- the results of all jobs, one of each, in whatever order
+pub record AreResultsOfAll (cells : List (Option Gate)) (jobs : List (List ℕ)) (rules : List RowView) (results : List WorkedView) : Type 0 where
+  pub once : (n : ℕ) → count_by (λ ticket. ticket == n) (map (λ worked. worked.ticket) results) ≡ cond (nat_lt n (length jobs)) 1 0
+  pub each : All (IsOfItsJob cells jobs rules) results
 
 abbrev tickets : List WorkedView → List ℕ
 tickets = map (λ (worked : WorkedView). worked.ticket)
@@ -27,17 +23,10 @@ tickets = map (λ (worked : WorkedView). worked.ticket)
 length_tickets : (xs : List WorkedView) → length (tickets xs) ≡ length xs
 length_tickets xs = length-map xs (λ (worked : WorkedView). worked.ticket)
 
-pub results_append : (cells : List (Option Gate)) (jobs : List (List ℕ)) (rules : List RowView) (whole front back : ℕ → Bool) (xs ys : List WorkedView)
-    → AreParted whole front back → AreResultsOf cells jobs rules front xs → AreResultsOf cells jobs rules back ys → AreResultsOf cells jobs rules whole (xs ++ ys)
-results_append cells jobs rules whole front back xs ys parted one two = record {
-  once = subst (StandOnce whole) (sym (map-append (λ (worked : WorkedView). worked.ticket) xs ys)) (once_append whole front back (tickets xs) (tickets ys) parted one.once two.once);
-  each = All-append (IsOfItsJob cells jobs rules) xs ys one.each two.each;
-}
-
 -- what a sort keeps
-pub results_permuted : (cells : List (Option Gate)) (jobs : List (List ℕ)) (rules : List RowView) (are : ℕ → Bool) (xs ys : List WorkedView)
-    → IsPermutation xs ys → AreResultsOf cells jobs rules are xs → AreResultsOf cells jobs rules are ys
-results_permuted cells jobs rules are xs ys moved results = record {
+pub results_permuted : (cells : List (Option Gate)) (jobs : List (List ℕ)) (rules : List RowView) (xs ys : List WorkedView)
+    → IsPermutation xs ys → AreResultsOfAll cells jobs rules xs → AreResultsOfAll cells jobs rules ys
+results_permuted cells jobs rules xs ys moved results = record {
   once = λ n. sum_by-IsPermutation (λ (ticket : ℕ). cond (ticket == n) 1 0) (tickets xs) (tickets ys) (IsPermutation-map (λ (worked : WorkedView). worked.ticket) xs ys moved) ∙ results.once n;
   each = All-permutation (IsOfItsJob cells jobs rules) xs ys moved results.each;
 }
@@ -107,14 +96,14 @@ tickets_up (x ∷ xs) up i j d le lt =
 
 -- the results of all jobs, sorted by their tickets, are those of a round
 pub results_in_order : (cells : List (Option Gate)) (jobs : List (List ℕ)) (rules : List RowView) (ys xs : List WorkedView)
-    → AreResultsOf cells jobs rules (λ n. nat_lt n (length jobs)) ys → IsPermutation ys xs → IsNonDecreasingBy (λ worked. worked.ticket) xs
+    → AreResultsOfAll cells jobs rules ys → IsPermutation ys xs → IsNonDecreasingBy (λ worked. worked.ticket) xs
     → AreResults cells jobs rules xs
-results_in_order cells jobs rules ys xs some moved up = by (results_permuted cells jobs rules (λ n. nat_lt n (length jobs)) ys xs moved some)
+results_in_order cells jobs rules ys xs some moved up = by (results_permuted cells jobs rules ys xs moved some)
   where
-    all_once : AreResultsOf cells jobs rules (λ n. nat_lt n (length jobs)) xs → (n : ℕ) → count_by (λ ticket. ticket == n) (tickets xs) ≡ cond (nat_le 0 n && nat_lt n (length jobs)) 1 0
+    all_once : AreResultsOfAll cells jobs rules xs → (n : ℕ) → count_by (λ ticket. ticket == n) (tickets xs) ≡ cond (nat_le 0 n && nat_lt n (length jobs)) 1 0
     all_once results n = results.once n ∙ sym (ap (λ (b : Bool). cond (b && nat_lt n (length jobs)) 1 0) (le-leb 0 n (omega arith)))
 
-    at : AreResultsOf cells jobs rules (λ n. nat_lt n (length jobs)) xs → (length (tickets xs) ≡ length jobs - 0) × ((i : ℕ) → i < length (tickets xs) → get_or (tickets xs) i 0 ≡ 0 + i)
+    at : AreResultsOfAll cells jobs rules xs → (length (tickets xs) ≡ length jobs - 0) × ((i : ℕ) → i < length (tickets xs) → get_or (tickets xs) i 0 ≡ 0 + i)
         → AreResults cells jobs rules xs
     at results places = record {
       count = omega (arith, places.0, length_tickets xs);
@@ -126,33 +115,5 @@ results_in_order cells jobs rules ys xs some moved up = by (results_permuted cel
           subst (λ (k : ℕ). IsResultOf cells (get_or jobs k []) rules k (get_or xs ticket d)) is (results.each ticket d below).result;
     }
 
-    by : AreResultsOf cells jobs rules (λ n. nat_lt n (length jobs)) xs → AreResults cells jobs rules xs
+    by : AreResultsOfAll cells jobs rules xs → AreResults cells jobs rules xs
     by results = at results (in_place (length jobs) 0 (tickets xs) (tickets_up xs up) (all_once results))
-
--- a ticket more that is ready
-pub ready_more : (whole left now : ℕ → Bool) (tasks : List Task) (task : Task)
-    → ((n : ℕ) → cond (whole n) 1 0 ≡ count_by (λ ticket. ticket == n) (map (λ (task : Task). task.ticket) tasks) + cond (left n) 1 0)
-    → AreParted left (λ n. n == task.ticket) now
-    → (n : ℕ) → cond (whole n) 1 0 ≡ count_by (λ ticket. ticket == n) (map (λ (task : Task). task.ticket) (tasks ++ task ∷ [])) + cond (now n) 1 0
-ready_more whole left now tasks task ready parted n =
-    rw (map-append (λ (task : Task). task.ticket) tasks (task ∷ [])) (omega (arith, ready n, one, counted))
-  where
-    list : List ℕ
-    list = map (λ (task : Task). task.ticket) tasks
-
-    counted : count_by (λ ticket. ticket == n) (list ++ task.ticket ∷ []) ≡ count_by (λ ticket. ticket == n) list + (0 + cond (task.ticket == n) 1 0)
-    counted = sum_by-append (λ (ticket : ℕ). cond (ticket == n) 1 0) list (task.ticket ∷ [])
-
-    same : (n == task.ticket) ≡ (task.ticket == n)
-    same = grind arith
-
-    one : cond (left n) 1 0 ≡ cond (task.ticket == n) 1 0 + cond (now n) 1 0
-    one = parted n ∙ ap (λ (b : Bool). cond b 1 0 + cond (now n) 1 0) same
-
--- a result more, of the next task
-pub tickets_more : (results : List WorkedView) (worked : WorkedView) (tasks : List Task) (task : Task)
-    → map (λ (worked : WorkedView). worked.ticket) results ≡ map (λ (task : Task). task.ticket) tasks → worked.ticket ≡ task.ticket
-    → map (λ (worked : WorkedView). worked.ticket) (results ++ worked ∷ []) ≡ map (λ (task : Task). task.ticket) (tasks ++ task ∷ [])
-tickets_more results worked tasks task so_far is =
-    map-append (λ (worked : WorkedView). worked.ticket) results (worked ∷ []) ∙ ap₂ (λ (front : List ℕ) (ticket : ℕ). front ++ ticket ∷ []) so_far is
-    ∙ sym (map-append (λ (task : Task). task.ticket) tasks (task ∷ []))
