@@ -4,7 +4,7 @@ ghost use Rattle.pq_limits.specs.Limits.{IsOmega, AreWorkers};
 ghost use Rattle.pq_array.specs.Cells.{IsLive};
 ghost use Rattle.pq_board.specs.Law.{stake, late};
 ghost use Rattle.pq_board.specs.Steps.{BelongsTo, HoldAll, unused, lowered_places};
-ghost use Rattle.pq_round.specs.Results.{AreResults, AreSameNumbers, all_given_up};
+ghost use Rattle.pq_round.specs.Results.{AreResults, AreSameNumbers, all_given_up, removed_gates};
 
 use crate::gate::WorkGate;
 use crate::workers::{RoundContext, work_by};
@@ -29,7 +29,7 @@ pub struct Round<'r> {
 /// Omega is 2 to 1,024. No more threads are started than there are jobs.
 ///
 /// There is one result for each job. An improved segment keeps its output in the first of its places; the workers lower
-/// the others. The pass that comes back is the only one: it has all tickets, and the board may be closed with it. Where
+/// the others, one for each gate that was removed. The pass that comes back is the only one: it has all tickets, and the board may be closed with it. Where
 /// memory is refused, nothing comes back.
 pub fn run_round<'r, R: Threads + Sync, G: WorkGate>(
     rt: &R,
@@ -56,6 +56,7 @@ pub fn run_round<'r, R: Threads + Sync, G: WorkGate>(
     ensures late { IfOk result (λ round. 1 ≤ late board.plan round.pass.view.tickets) }
     ensures all { IfOk result (λ round. HoldAll board.plan round.pass.view.tickets) }
     ensures lowered { IfOk result (λ round. AreSameNumbers (lowered_places round.pass.view.lowered) (all_given_up board.plan.jobs round.results.items)) }
+    ensures removed { IfOk result (λ round. length (lowered_places round.pass.view.lowered) ≡ removed_gates round.results.items) }
 {
     // the rows are sound
     let _rows = rules.count();
