@@ -212,17 +212,10 @@ fn lead(gates: &[Gate], next: &mut [Sides], last: u32, wire: u32, place: u32)
     if (last as usize) < gates.len() {
         let (first, second) = wires_of(gates[last as usize]);
         let sides = next[last as usize];
+        let to = place as u16;
         next[last as usize] = Sides {
-            first: if first == wire {
-                place as u16
-            } else {
-                sides.first
-            },
-            second: if second == wire {
-                place as u16
-            } else {
-                sides.second
-            },
+            first: if first == wire { to } else { sides.first },
+            second: if second == wire { to } else { sides.second },
         };
     }
 }
