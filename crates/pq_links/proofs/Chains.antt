@@ -68,10 +68,10 @@ uses_neither gate wire first second first_is second_is not_first not_second uses
 
 -- places fall on the way back, and past the end it is over
 pub earlier_less : {buckets bucket : ℕ} {gates : List Gate} {place earlier : ℕ} → length gates < far → place < length gates → IsLastIn buckets bucket gates place earlier →
-    (earlier + 1) % 4294967296 < (place + 1) % 4294967296
+    (earlier + 1) % 65536 < (place + 1) % 65536
 earlier_less {buckets} {bucket} {gates} {place} {earlier} few inside last = by (cases_order earlier place)
   where
-    by : (earlier ≡ place) ⊎ ((earlier < place) ⊎ (place < earlier)) → (earlier + 1) % 4294967296 < (place + 1) % 4294967296
+    by : (earlier ≡ place) ⊎ ((earlier < place) ⊎ (place < earlier)) → (earlier + 1) % 65536 < (place + 1) % 65536
     by (inl same) = (let e : earlier ≡ far = last.past (omega arith) in absurd (omega arith))
     by (inr (inl less)) = omega arith
     by (inr (inr more)) = (let e : earlier ≡ far = last.past (omega arith) in omega arith)

@@ -2,3 +2,4 @@ pub use Rattle.pq_gate.specs.Commuting
 pub mod Wires
 pub mod Places
 pub mod Links
+pub mod Slots

@@ -4,5 +4,5 @@
 mod links;
 mod wires;
 
-pub use links::{FAR, Links, Sides};
+pub use links::{FAR, Links, NO_WIRE, Sides, next_on};
 pub use wires::wires_of;

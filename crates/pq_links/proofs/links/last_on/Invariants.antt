@@ -7,4 +7,4 @@ invariant-back l = IsBack l.buckets l.bucket l.gates l.wire l.place
 
 -- places fall, and past the end it is over
 abbrev pub decreases-back : goal.decreases-back
-decreases-back l = (l.place + 1) % 4294967296
+decreases-back l = (l.place + 1) % 65536
