@@ -30,3 +30,6 @@ pub mod Admitting
 pub mod SeekRow
 pub mod Starting
 pub mod RewritingTests
+pub mod Ranks
+pub mod RankedRedexes
+pub mod RankedRewriting
