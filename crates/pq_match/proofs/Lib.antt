@@ -31,3 +31,6 @@ pub mod Taken
 pub mod SeekRow
 pub mod Starting
 pub mod RewritingTests
+pub mod Ranks
+pub mod RankedRedexes
+pub mod RankedRewriting
