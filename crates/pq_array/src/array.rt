@@ -12,6 +12,9 @@ use pq_list::{OutOfMemory, crosses_threads};
 use std::alloc::Global;
 use std::marker::Model;
 
+/// How many cells are looked at one after another for the next live one, before the tree is asked.
+const NEAR: u64 = 32;
+
 /// Cells that each hold a gate, or are a tombstone where a gate was taken out. Contracts see the list
 /// of cells, and its live gates: those that are left, in order of place. A place is the number of a
 /// cell, counted from 0; the number of cells stands for the end. Only `open` takes memory.
@@ -125,6 +128,23 @@ impl GateArray {
 
     /// The least live place that isn't before this place.
     pub fn next_live(&self, place: u64) -> Option<u64>
+        ensures none { IsNone result ↔ ((later : ℕ) → place ≤ later → IsLive self.now later → ⊥) }
+        ensures live { IfSome result (IsLive self.now) }
+        ensures after { IfSome result (λ next. place ≤ next) }
+        ensures least { IfSome result (λ next. (later : ℕ) →
+            place ≤ later → IsLive self.now later → next ≤ later) }
+    {
+        let near = self.cells().min(place.saturating_add(NEAR));
+        for next in place..near {
+            if self.gate_at(next).is_some() {
+                return Some(next);
+            }
+        }
+        self.next_by_rank(place)
+    }
+
+    /// The same, by the ways from and to the root.
+    fn next_by_rank(&self, place: u64) -> Option<u64>
         ensures none { IsNone result ↔ ((later : ℕ) → place ≤ later → IsLive self.now later → ⊥) }
         ensures live { IfSome result (IsLive self.now) }
         ensures after { IfSome result (λ next. place ≤ next) }

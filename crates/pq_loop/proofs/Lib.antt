@@ -16,3 +16,4 @@ pub mod Numbering
 pub mod Moving
 pub mod Collecting
 pub mod Rejoining
+pub mod Compacting
