@@ -7,3 +7,4 @@ pub mod CountUp
 pub mod Replacing
 pub mod Lowering
 pub mod TreeLaws
+pub mod Compacting

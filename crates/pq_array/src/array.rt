@@ -3,8 +3,9 @@ ghost use Rattle.pq_array.specs.Cells.{live, rank, spliced, IsLive, IsLiveRun, R
 ghost use Rattle.pq_array.specs.Tree.{IsTreeOf};
 
 use crate::WordList;
+use crate::cell::Cell;
 use crate::cells::Cells;
-use crate::tree::{lower, tree_over};
+use crate::tree::{count_again, lower, tree_over};
 use pq_gate::Gate;
 use pq_limits::MAX_GATES;
 use pq_list::{OutOfMemory, crosses_threads};
@@ -152,6 +153,15 @@ impl GateArray {
         self.cells.replace(places, output);
     }
 
+    /// Moves the live gates to the first places, in order, and lets the other cells go: no tombstone is left.
+    pub fn compact(&mut self)
+        ensures cells { self.new ≡ map (λ gate. Some gate) (live self.old) }
+        ensures live { live self.new ≡ live self.old }
+    {
+        self.cells.compact();
+        count_again(&mut self.words, self.cells.as_slice());
+    }
+
     /// The cells alone, and the words of the tree over them. Word 0 is 0. It copies none.
     pub fn split_words(self) -> (Cells, WordList)
         ensures cells { result.0 ≡ self }
@@ -175,10 +185,13 @@ impl GateArray {
 }
 
 /// One live cell for each gate.
-fn live_cells(alloc: Global, gates: &[Gate]) -> Result<Vec<Option<Gate>>, OutOfMemory>
+fn live_cells(alloc: Global, gates: &[Gate]) -> Result<Vec<Cell>, OutOfMemory>
     ensures { IfOk result (λ cells. cells.items ≡ map (λ gate. Some gate) gates.now) }
 {
-    gates.iter().map(|gate| Some(*gate)).collect(alloc)
+    gates
+        .iter()
+        .map(|gate| Cell::of(Some(*gate)))
+        .collect(alloc)
 }
 
 /// An array crosses threads.

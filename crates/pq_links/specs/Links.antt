@@ -8,7 +8,7 @@ use Rattle.pq_links.specs.Places.{gate_at}
 
 -- a place that lies past the end of every list
 abbrev pub far : ℕ
-far = 4294967295
+far = 65535
 
 -- what stands at the first or the second wire
 abbrev pub side : Bool → Sides → ℕ

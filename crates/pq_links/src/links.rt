@@ -1,22 +1,27 @@
-ghost use Rattle.std.specs.Prelude.{◌≡◌, ℕ, ◌+◌, ◌%◌, ◌<◌, ◌≤◌, [], ◌∷◌, ◌++◌, Bool, true, false, length, slice_index, IfOk};
+ghost use Rattle.std.specs.Prelude.{◌≡◌, ◌≢◌, ℕ, ◌+◌, ◌%◌, ◌<◌, ◌≤◌, [], ◌∷◌, ◌++◌, Bool, true, false, length, slice_index, IfOk};
 ghost use Rattle.pq_gate.specs.Commuting.{Touches};
 ghost use Rattle.pq_links.specs.Wires.{wire_of};
 ghost use Rattle.pq_links.specs.Places.{gate_at};
 ghost use Rattle.pq_links.specs.Links.{side_at, IsNextOn, IsLastIn, IsLastOn, AreLinked, AreBefore, AreHeads};
+ghost use Rattle.pq_links.specs.Slots.{AreNext};
 
 use crate::wires::wires_of;
 use pq_gate::Gate;
-use std::alloc::{AllocError, Global};
+use pq_list::OutOfMemory;
+use std::alloc::Global;
 use std::marker::Model;
 
 /// No place: it lies past the end of every list.
-pub const FAR: u32 = 4_294_967_295;
+pub const FAR: u32 = 65_535;
+
+/// A number that stands for no wire. A CX that has it twice marks a free slot.
+pub const NO_WIRE: u32 = 4_294_967_295;
 
 /// A place for each of a gate's two wires. For a gate with a single wire both are the same.
 #[derive(Clone, Copy, Debug, PartialEq, Eq)]
 pub struct Sides {
-    pub first: u32,
-    pub second: u32,
+    pub first: u16,
+    pub second: u16,
 }
 
 /// The links of a list of gates: for each gate and each of its wires the next place on that wire. Gates are
@@ -28,30 +33,31 @@ pub struct Links {
     before: Vec<Sides>,
 
     // for each bucket the last place in it
-    heads: Vec<u32>,
+    heads: Vec<u16>,
     asked: u32,
 }
 
 impl Model for Links {
     ghost use Rattle.std.specs.Prelude.{◌≤◌, ◌<◌, vec_len, vec_capacity};
-    ghost use Rattle.pq_links.specs.Links.{LinksView};
+    ghost use Rattle.pq_links.specs.Links.{LinksView, far};
 
     ghost Value = { LinksView };
 
     ghost view = { λ a. record { next = a.next.items; before = a.before.items; heads = a.heads.items; room = a.asked } };
 
-    ghost invariant = { λ a. (a.asked ≤ vec_capacity a.next) × (a.asked ≤ vec_capacity a.before) × (0 < vec_len a.heads) × (vec_len a.heads ≤ 4294967295) };
+    ghost invariant = { λ a. (a.asked ≤ vec_capacity a.next) × (a.asked ≤ vec_capacity a.before) × (a.asked < far) × (0 < vec_len a.heads) × (vec_len a.heads ≤ far) };
 }
 
 impl Links {
     /// The links of no gate, with room for those of `room` gates. The room is taken here, once.
-    pub fn with_room(alloc: Global, room: u32) -> Result<Links, AllocError>
+    pub fn with_room(alloc: Global, room: u32) -> Result<Links, OutOfMemory>
+        requires { room < FAR }
         ensures linked { IfOk result (λ made. AreLinked [] made) }
         ensures room { IfOk result (λ made. made.room ≡ room) }
     {
         let next = Vec::with_capacity(alloc, room as usize)?;
         let before = Vec::with_capacity(alloc, room as usize)?;
-        let heads = Vec::from_elem(alloc, FAR, room.max(1) as usize)?;
+        let heads = Vec::from_elem(alloc, FAR as u16, room.max(1) as usize)?;
         Ok(Links {
             next,
             before,
@@ -67,7 +73,7 @@ impl Links {
     {
         self.next.clear();
         self.before.clear();
-        self.heads.as_mut_slice().fill(FAR);
+        self.heads.as_mut_slice().fill(FAR as u16);
     }
 
     /// Appends a gate.
@@ -87,8 +93,8 @@ impl Links {
         lead(gates, next, last_first, first, place);
         lead(gates, next, last_second, second, place);
         self.next.push_reserved(Sides {
-            first: FAR,
-            second: FAR,
+            first: FAR as u16,
+            second: FAR as u16,
         });
         let buckets = heads.len() as u32;
         let one = (first % buckets) as usize;
@@ -97,8 +103,8 @@ impl Links {
             first: heads[one],
             second: heads[other],
         });
-        self.heads[one] = place;
-        self.heads[other] = place;
+        self.heads[one] = place as u16;
+        self.heads[other] = place as u16;
     }
 
     /// Becomes the links of these gates.
@@ -121,13 +127,14 @@ impl Links {
         ensures ahead { place + 1 ≤ result }
         ensures next { Touches (gate_at gates.now place) wire → IsNextOn gates.now wire (place + 1) result }
     {
-        let (first, _second) = wires_of(gates[place as usize]);
-        let sides = self.next(gates, place);
-        if first == wire {
-            sides.first
-        } else {
-            sides.second
-        }
+        side_on(gates, self.next.as_slice(), place, wire)
+    }
+
+    /// For each gate and each of its wires the next place on the wire, as `AreLinked` says it.
+    pub fn nexts(&self) -> &[Sides]
+        ensures { result.now ≡ self.now.next }
+    {
+        self.next.as_slice()
     }
 
     /// For each wire of the gate at the place the least later place whose gate uses it, or `FAR` where there is
@@ -142,8 +149,35 @@ impl Links {
     }
 }
 
+/// The least place behind this one whose gate uses the wire, or `FAR` where there is none. The gate at the place has
+/// to use the wire, which isn't `NO_WIRE`.
+pub fn next_on(gates: &[Gate], next: &[Sides], place: u32, wire: u32) -> u32
+    requires long { length next.now ≡ length gates.now }
+    requires linked { AreNext gates.now next.now }
+    requires place { place < length gates.now }
+    ensures fits { result ≤ FAR }
+    ensures next { wire ≢ NO_WIRE → Touches (gate_at gates.now place) wire → IsNextOn gates.now wire (place + 1) result }
+{
+    side_on(gates, next, place, wire)
+}
+
+// what is noted at the place for this wire of its gate
+fn side_on(gates: &[Gate], sides: &[Sides], place: u32, wire: u32) -> u32
+    requires long { length sides.now ≡ length gates.now }
+    requires place { place < length gates.now }
+    ensures fits { result ≤ FAR }
+    ensures noted { (one : Bool) × (Touches (gate_at gates.now place) wire → wire ≡ wire_of one (gate_at gates.now place)) × (result ≡ side_at one sides.now place) }
+{
+    let noted = sides[place as usize];
+    if gates[place as usize].first_wire() == wire {
+        noted.first as u32
+    } else {
+        noted.second as u32
+    }
+}
+
 // the last place on the wire, or FAR where there is none
-fn last_on(gates: &[Gate], before: &[Sides], heads: &[u32], wire: u32) -> u32
+fn last_on(gates: &[Gate], before: &[Sides], heads: &[u16], wire: u32) -> u32
     requires few { length gates.now < FAR }
     requires some { 0 < length heads.now }
     requires buckets { length heads.now ≤ FAR }
@@ -154,7 +188,7 @@ fn last_on(gates: &[Gate], before: &[Sides], heads: &[u32], wire: u32) -> u32
 {
     let buckets = heads.len() as u32;
     let bucket = wire % buckets;
-    let mut place = heads[bucket as usize];
+    let mut place = heads[bucket as usize] as u32;
     'back: while (place as usize) < gates.len() {
         let (first, second) = wires_of(gates[place as usize]);
         if first == wire || second == wire {
@@ -162,26 +196,28 @@ fn last_on(gates: &[Gate], before: &[Sides], heads: &[u32], wire: u32) -> u32
         }
         let earlier = before[place as usize];
         place = if first % buckets == bucket {
-            earlier.first
+            earlier.first as u32
         } else {
-            earlier.second
+            earlier.second as u32
         };
     }
     FAR
 }
 
 // leads on from the last gate on the wire to this place
-fn lead(gates: &[Gate], next: &mut [Sides], last: u32, wire: u32, place: u32)
-    requires { length next.old ≡ length gates.now }
+pub(crate) fn lead(gates: &[Gate], next: &mut [Sides], last: u32, wire: u32, place: u32)
+    requires fits { place ≤ FAR }
+    requires long { length next.old ≡ length gates.now }
     ensures led { (one : Bool) → last < length gates.now → wire_of one (gate_at gates.now last) ≡ wire → side_at one next.new last ≡ place }
     ensures others { (p : ℕ) (one : Bool) → (p ≡ last → wire_of one (gate_at gates.now p) ≡ wire → ⊥) → side_at one next.new p ≡ side_at one next.old p }
 {
     if (last as usize) < gates.len() {
         let (first, second) = wires_of(gates[last as usize]);
         let sides = next[last as usize];
+        let to = place as u16;
         next[last as usize] = Sides {
-            first: if first == wire { place } else { sides.first },
-            second: if second == wire { place } else { sides.second },
+            first: if first == wire { to } else { sides.first },
+            second: if second == wire { to } else { sides.second },
         };
     }
 }

@@ -1,5 +1,5 @@
 use Rattle.std.proofs.Common.{◌+◌, ◌%◌}
-use Rattle.pq_links.proofs.Chains.{IsBack}
+use Rattle.pq_links.proofs.Buckets.{IsBack}
 use Rattle.pq_links.proofs.links.last_on.Given as goal
 
 abbrev pub invariant-back : goal.invariant-back
@@ -7,4 +7,4 @@ invariant-back l = IsBack l.buckets l.bucket l.gates l.wire l.place
 
 -- places fall, and past the end it is over
 abbrev pub decreases-back : goal.decreases-back
-decreases-back l = (l.place + 1) % 4294967296
+decreases-back l = (l.place + 1) % 65536

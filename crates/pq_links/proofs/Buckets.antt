@@ -1,0 +1,77 @@
+-- The last place on a wire, found along the places in the wire's bucket.
+use Rattle.std.proofs.Common.{◌≡◌, ◌≢◌, ℕ, ◌+◌, ◌%◌, ◌<◌, ◌≤◌, Bool, true, false, List, length, sym, ap, subst, ◌∙◌, arith, inl, inr, ◌⊎◌}
+use Rattle.std.proofs.lemmas.Bool.{cases_order}
+use Rattle.pq_gate.specs.declared.gate.Gate.{Gate}
+use Rattle.pq_gate.specs.Commuting.{Touches}
+use Rattle.pq_links.specs.Wires.{wire_of}
+use Rattle.pq_links.specs.Places.{gate_at}
+use Rattle.pq_links.specs.Links.{far, IsLastIn}
+use Rattle.pq_links.proofs.Touching.{touched}
+
+-- No gate behind the place uses the wire, and the place is in the wire's bucket, or past the end.
+pub record IsBack (buckets bucket : ℕ) (gates : List Gate) (wire place : ℕ) : Type 0 where
+  pub «in» : place < length gates → (one : Bool) × (wire_of one (gate_at gates place) % buckets ≡ bucket)
+  pub none : (p : ℕ) → p < length gates → (place < length gates → place < p) → ¬ Touches (gate_at gates p) wire
+  pub past : length gates ≤ place → place ≡ far
+
+-- a gate with no wire in the bucket doesn't use the wire
+not_in : (buckets : ℕ) (gate : Gate) (wire : ℕ) → ((one : Bool) → wire_of one gate % buckets ≢ wire % buckets) → ¬ Touches gate wire
+not_in buckets gate wire none uses =
+    let side = touched gate wire uses in
+    none side.0 (ap (λ (w : ℕ). w % buckets) (sym side.1))
+
+pub back_starts : {buckets : ℕ} {gates : List Gate} (wire place : ℕ) → IsLastIn buckets (wire % buckets) gates (length gates) place →
+    IsBack buckets (wire % buckets) gates wire place
+back_starts {buckets} {gates} wire place last = record {
+  «in» = last.«in»;
+  none = λ p below behind. not_in buckets (gate_at gates p) wire (last.none p below behind);
+  past = last.past;
+}
+
+-- one place further back
+pub back_more : (buckets : ℕ) (gates : List Gate) (wire place earlier : ℕ) → length gates < far → IsBack buckets (wire % buckets) gates wire place →
+    place < length gates → ¬ Touches (gate_at gates place) wire → IsLastIn buckets (wire % buckets) gates place earlier →
+    IsBack buckets (wire % buckets) gates wire earlier
+back_more buckets gates wire place earlier few back inside other last = record {
+  «in» = λ below. last.«in» (before below (cases_order earlier place));
+  none = λ p below behind. none p below behind (cases_order p place);
+  past = λ above. past above (cases_order earlier place);
+}
+  where
+    before : earlier < length gates → (earlier ≡ place) ⊎ ((earlier < place) ⊎ (place < earlier)) → earlier < place
+    before below (inl same) = (let e : earlier ≡ far = last.past (omega arith) in absurd (omega arith))
+    before below (inr (inl less)) = less
+    before below (inr (inr more)) = (let e : earlier ≡ far = last.past (omega arith) in absurd (omega arith))
+
+    past : length gates ≤ earlier → (earlier ≡ place) ⊎ ((earlier < place) ⊎ (place < earlier)) → earlier ≡ far
+    past above (inl same) = absurd (omega arith)
+    past above (inr (inl less)) = absurd (omega arith)
+    past above (inr (inr more)) = last.past (omega arith)
+
+    none : (p : ℕ) → p < length gates → (earlier < length gates → earlier < p) → (p ≡ place) ⊎ ((p < place) ⊎ (place < p)) → ¬ Touches (gate_at gates p) wire
+    none p below behind (inl same) = subst (λ (q : ℕ). ¬ Touches (gate_at gates q) wire) (sym same) other
+    none p below behind (inr (inl less)) = not_in buckets (gate_at gates p) wire (last.none p less (λ low. behind (omega arith)))
+    none p below behind (inr (inr more)) = back.none p below (λ low. more)
+
+-- the other wire is in the bucket
+pub other_side : (buckets bucket : ℕ) (gate : Gate) → (one : Bool) × (wire_of one gate % buckets ≡ bucket) → (wire_of false gate % buckets ≢ bucket) → wire_of true gate % buckets ≡ bucket
+other_side buckets bucket gate (true, is) not_first = is
+other_side buckets bucket gate (false, is) not_first = absurd (not_first is)
+
+-- neither wire is the one
+pub uses_neither : (gate : Gate) (wire first second : ℕ) → first ≡ wire_of false gate → second ≡ wire_of true gate → first ≢ wire → second ≢ wire → ¬ Touches gate wire
+uses_neither gate wire first second first_is second_is not_first not_second uses = by (touched gate wire uses)
+  where
+    by : (one : Bool) × (wire ≡ wire_of one gate) → ⊥
+    by (false, is) = not_first (first_is ∙ sym is)
+    by (true, is) = not_second (second_is ∙ sym is)
+
+-- places fall on the way back, and past the end it is over
+pub earlier_less : {buckets bucket : ℕ} {gates : List Gate} {place earlier : ℕ} → length gates < far → place < length gates → IsLastIn buckets bucket gates place earlier →
+    (earlier + 1) % 65536 < (place + 1) % 65536
+earlier_less {buckets} {bucket} {gates} {place} {earlier} few inside last = by (cases_order earlier place)
+  where
+    by : (earlier ≡ place) ⊎ ((earlier < place) ⊎ (place < earlier)) → (earlier + 1) % 65536 < (place + 1) % 65536
+    by (inl same) = (let e : earlier ≡ far = last.past (omega arith) in absurd (omega arith))
+    by (inr (inl less)) = omega arith
+    by (inr (inr more)) = (let e : earlier ≡ far = last.past (omega arith) in omega arith)
