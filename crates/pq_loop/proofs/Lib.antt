@@ -17,3 +17,4 @@ pub mod Moving
 pub mod Collecting
 pub mod Rejoining
 pub mod Compacting
+pub mod Ends

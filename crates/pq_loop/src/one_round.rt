@@ -10,7 +10,7 @@ ghost use Rattle.pq_loop.specs.Receipts.{receipt_of};
 ghost use Rattle.pq_loop.specs.Segments.{stands, state_of, works_of, AreNumbersOf, AreMoved};
 
 use crate::over_board::work_over_board;
-use crate::segments::{Segments, cuts_of, gaps_of, segments_of};
+use crate::segments::{Segments, cuts_of, gaps_of, live_or_end, segments_of};
 use pq_array::GateArray;
 use pq_board::Receipt;
 use pq_finger::Fingers;
@@ -161,13 +161,4 @@ fn moved_on(alloc: Global, array: &GateArray, fingers: Fingers) -> Result<Finger
         to.push_reserved(live_or_end(array, *place));
     }
     Ok(fingers.moved(to.as_slice()))
-}
-
-/// The least live place from this one on, or the end.
-#[tactic(auto, using(crate::proofs::Moving::next_stands))]
-fn live_or_end(array: &GateArray, place: u64) -> u64
-    ensures stands { IsTrue (stands array.now result) }
-    ensures rank { rank array.now result ≡ rank array.now place }
-{
-    array.next_live(place).unwrap_or(array.cells())
 }

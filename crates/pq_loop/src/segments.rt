@@ -161,10 +161,54 @@ fn live_from(array: &GateArray, place: u64) -> u64
     array.next_live(place).unwrap()
 }
 
-/// Where the segment of a finger of this index and gap begins and ends, as if it weren't improved.
-fn cut_at(array: &GateArray, finger: u64, gap: u64, omega: u32) -> Cut
+/// The least live place from this one on, or the end.
+#[tactic(auto, using(crate::proofs::Moving::next_stands))]
+pub fn live_or_end(array: &GateArray, place: u64) -> u64
+    ensures stands { IsTrue (stands array.now result) }
+    ensures rank { rank array.now result ≡ rank array.now place }
+{
+    array.next_live(place).unwrap_or(array.cells())
+}
+
+/// The place of the gap where a segment begins: that of the first of its places, which go from one gap to another.
+#[tactic(auto, using(crate::proofs::Ends::begins_stands, crate::proofs::Ends::begins_rank))]
+fn begin_of(array: &GateArray, places: &[u64], from: u64, to: u64) -> u64
+    requires run { AreOfRun array.now from to places.now }
+    requires empty { to ≤ from → from ≡ length (live array.now) }
+    ensures stands { IsTrue (stands array.now result) }
+    ensures rank { rank array.now result ≡ from }
+{
+    if places.is_empty() {
+        array.cells()
+    } else {
+        places[0]
+    }
+}
+
+/// The place of the gap where it ends: the next live place behind the last of its places, or the end.
+#[tactic(auto, using(crate::proofs::Ends::ends_inside, crate::proofs::Ends::ends_rank))]
+fn end_of(array: &GateArray, places: &[u64], from: u64, to: u64) -> u64
+    requires run { AreOfRun array.now from to places.now }
+    requires up { from ≤ to }
+    requires empty { to ≤ from → to ≡ length (live array.now) }
+    requires few { length array.now ≤ MAX_GATES }
+    ensures stands { IsTrue (stands array.now result) }
+    ensures rank { rank array.now result ≡ to }
+{
+    if places.is_empty() {
+        array.cells()
+    } else {
+        live_or_end(array, places[places.len() - 1] + 1)
+    }
+}
+
+/// Where the segment of a finger of this index and gap begins and ends, as if it weren't improved. Its gates are at these
+/// places.
+fn cut_at(array: &GateArray, finger: u64, gap: u64, omega: u32, places: &[u64]) -> Cut
+    requires omega { IsOmega omega }
     requires gap { gap ≤ length (live array.now) }
     requires few { length array.now ≤ MAX_GATES }
+    requires run { AreOfRun array.now (segment_from omega gap) (segment_to omega (length (live array.now)) gap) places.now }
     ensures { (improved : Bool) (places : List ℕ) (gaps : GapCut) → IsCutHere (length (live array.now)) omega gap improved gaps →
         finger < length places → rank array.now (slice_index places finger) ≡ gap →
         IsAtPlaces (rank array.now) (stands array.now) (length (live array.now)) places gaps (flagged improved result) }
@@ -174,8 +218,8 @@ fn cut_at(array: &GateArray, finger: u64, gap: u64, omega: u32) -> Cut
     Cut {
         finger,
         improved: false,
-        from: place_of(array, from),
-        to: place_of(array, to),
+        from: begin_of(array, places, from, to),
+        to: end_of(array, places, from, to),
         at_start: from == 0,
         at_end: to == live,
     }
@@ -185,6 +229,7 @@ impl Segments {
     /// Where each segment begins and ends, told at places. The array is the one before the round. With the words of the
     /// round's results these are what the round did at each.
     pub fn ends(&self, alloc: Global, array: &GateArray) -> Result<Vec<Cut>, OutOfMemory>
+        requires omega { IsOmega self.now.omega }
         requires segments { AreSegments array.now self.now }
         requires fingers { length self.now.fingers.items ≡ length self.now.gaps.items }
         requires few { length array.now ≤ MAX_GATES }
@@ -197,7 +242,8 @@ impl Segments {
         let mut ends = Vec::with_capacity(alloc, self.gaps.len())?;
         for number in 0..self.gaps.len() {
             let finger = self.fingers.as_slice()[number];
-            ends.push_reserved(cut_at(array, finger, self.gaps[number], self.omega));
+            let places = self.jobs.places(number as u64);
+            ends.push_reserved(cut_at(array, finger, self.gaps[number], self.omega, places));
         }
         Ok(ends)
     }
