@@ -9,7 +9,7 @@ use Rattle.pq_links.specs.Links.{IsNextOn}
 use Rattle.pq_match.specs.declared.cursors.Cursors.{Cursors}
 use Rattle.pq_match.specs.Redex.{gate_at}
 use Rattle.pq_match.specs.Search.{AreApart, AreAlike, IsFitting, IsGrown, AreEight}
-use Rattle.pq_match.specs.Seek.{AreCursors, AreAhead, HaveMovedOn, AreLedTo}
+use Rattle.pq_match.specs.Seek.{IsTaken, AreCursors, AreAhead, HaveMovedOn, AreLedTo}
 use Rattle.pq_match.proofs.Growing.{put_at, put_before}
 use Rattle.pq_match.proofs.SearchGates.{wire_below, gate_on_wires}
 use Rattle.pq_match.proofs.SearchTouches.{touched}
@@ -32,6 +32,7 @@ module _ {gates pattern : List Gate} {places : List ℕ} {count from : ℕ} {cur
   -- cursors at a place are cursors at each later one that they don't stand before
   pub cursors_on : (place : ℕ) → AreAhead place cursors → from ≤ place → AreCursors gates pattern places count place cursors
   cursors_on place ahead upto = record {
+    taken = are.taken;
     leads = are.leads;
     next = λ s one below. record {
       ahead = ahead (wire_of one (gate_at pattern s)) (pattern_wire pattern on s one (omega arith));
@@ -43,6 +44,7 @@ module _ {gates pattern : List Gate} {places : List ℕ} {count from : ℕ} {cur
 
   pub cursors_moved : {new : Cursors} → AreAhead from cursors → from < length gates → HaveMovedOn gates from cursors new → AreCursors gates pattern places count (from + 1) new
   cursors_moved {new} ahead inside moved = record {
+    taken = are.taken;
     leads = λ s one below. ap (λ (xs : List ℕ). get_or xs (wire_of one (gate_at pattern s)) 0) moved.wires ∙ are.leads s one below;
     next = λ s one below. next_of s one below (cases_order (get_or cursors.next (wire_of one (gate_at pattern s)) 0) from);
   }
@@ -53,6 +55,7 @@ module _ {gates pattern : List Gate} {places : List ℕ} {count from : ℕ} {cur
       next_of s one below (inl same) =
           subst (λ (w : ℕ). IsNextOn gates w (from + 1) (get_or new.next (wire_of one (gate_at pattern s)) 0)) (are.leads s one below)
           (moved.next (wire_of one (gate_at pattern s)) (pattern_wire pattern on s one (omega arith)) same
+          (λ none. are.taken s below one (sym (are.leads s one below) ∙ none))
           (subst (Touches (gate_at gates from)) (sym (are.leads s one below))
           (subst (λ (p : ℕ). Touches (gate_at gates p) (wire_of one (gate_at gates (get_or places s 0)))) same ((are.next s one below).uses (subst (λ (p : ℕ). p < length gates) (sym same) inside)))))
       next_of s one below (inr (inl less)) =
@@ -77,9 +80,10 @@ moved_ahead {gates} {place} {old} {new} moved ahead v below = by (cases_order (g
 
 -- the gate at a place is chosen for the next gate of the pattern
 pub cursors_led : {gates pattern : List Gate} {places : List ℕ} {count place : ℕ} {old new : Cursors} → AreCursors gates pattern places count (place + 1) old →
-    AreLedTo gates (gate_at pattern count) place old new → IsFitting gates pattern (set places count place) count → AreEight places count → count < 8 →
+    IsTaken (gate_at gates place) → AreLedTo gates (gate_at pattern count) place old new → IsFitting gates pattern (set places count place) count → AreEight places count → count < 8 →
     AreCursors gates pattern (set places count place) (count + 1) (place + 1) new
-cursors_led {gates} {pattern} {places} {count} {place} {old} {new} are led fits eight room = record {
+cursors_led {gates} {pattern} {places} {count} {place} {old} {new} are is_taken led fits eight room = record {
+  taken = λ s below. taken_at s below (cases_order s count);
   leads = λ s one below. (at s one below (cases_order s count)).0;
   next = λ s one below. (at s one below (cases_order s count)).1;
 }
@@ -89,6 +93,12 @@ cursors_led {gates} {pattern} {places} {count} {place} {old} {new} are led fits 
 
     before : (s : ℕ) → s < count → get_or (set places count place) s 0 ≡ get_or places s 0
     before s below = put_before places count place eight.eight room s below
+
+    taken_at : (s : ℕ) → s < count + 1 → (s ≡ count) ⊎ ((s < count) ⊎ (count < s)) → IsTaken (gate_at gates (get_or (set places count place) s 0))
+    taken_at s below (inl same) =
+        subst (λ (p : ℕ). IsTaken (gate_at gates p)) (sym (ap (λ (k : ℕ). get_or (set places count place) k 0) same ∙ here)) is_taken
+    taken_at s below (inr (inl less)) = subst (λ (p : ℕ). IsTaken (gate_at gates p)) (sym (before s less)) (are.taken s less)
+    taken_at s below (inr (inr more)) = absurd (omega arith)
 
     alike : (s : ℕ) → s < count → AreAlike (gate_at pattern s) (gate_at pattern count) (gate_at gates (get_or places s 0)) (gate_at gates place)
     alike s below =

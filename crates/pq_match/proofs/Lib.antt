@@ -27,6 +27,7 @@ pub mod SearchFrom
 pub mod SearchWithin
 pub mod Roles
 pub mod Admitting
+pub mod Taken
 pub mod SeekRow
 pub mod Starting
 pub mod RewritingTests

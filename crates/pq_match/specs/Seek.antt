@@ -8,7 +8,9 @@ use Rattle.pq_rules.specs.declared.seen.Seen.TheVariants as seen
 use Rattle.pq_rules.specs.Row.{RowView}
 use Rattle.pq_rules.specs.Seen.{first_role, last_role, role_on}
 use Rattle.pq_links.specs.Wires.{wire_of}
-use Rattle.pq_links.specs.Links.{IsNextOn}
+use Rattle.pq_links.specs.declared.links.Sides.{Sides}
+use Rattle.pq_links.specs.Links.{far, IsNextOn}
+use Rattle.pq_links.specs.Slots.{no_wire, AreSlots, AreNext}
 use Rattle.pq_match.specs.declared.cursors.Cursors.{Cursors}
 use Rattle.pq_match.specs.declared.redex.Redex.{Redex}
 use Rattle.pq_match.specs.Redex.{RedexView, gate_at}
@@ -46,9 +48,21 @@ abbrev pub SeeksFull : List Gate → List Gate → ℕ → List ℕ → ℕ → 
 SeeksFull gates pattern reach front count (Some places) = IsFirstFull gates pattern (length gates) front count places
 SeeksFull gates pattern reach front count None = HasNoFullAlike gates pattern reach front count
 
--- Each wire of the pattern's first `count` gates has the wire that it is led to, and the least place from `from` on
--- whose gate uses that.
+-- the gate doesn't use the number that stands for no wire
+abbrev pub IsTaken : Gate → Type 0
+IsTaken gate = (one : Bool) → wire_of one gate ≢ no_wire
+
+-- slots, and for each gate in them and each of its wires the next place on the wire
+pub record AreLinkedSlots (slots : List Gate) (ahead : List Sides) : Type 0 where
+  pub few : length slots < far
+  pub are : AreSlots slots
+  pub nexts : length ahead ≡ length slots
+  pub next : AreNext slots ahead
+
+-- Each wire of the pattern's first `count` gates has the wire that it is led to, which isn't that of free slots, and the
+-- least place from `from` on whose gate uses that.
 pub record AreCursors (gates pattern : List Gate) (places : List ℕ) (count from : ℕ) (cursors : Cursors) : Type 0 where
+  pub taken : (s : ℕ) → s < count → IsTaken (gate_at gates (slice_index places s))
   pub leads : (s : ℕ) (one : Bool) → s < count →
       slice_index cursors.wires (wire_of one (gate_at pattern s)) ≡ wire_of one (gate_at gates (slice_index places s))
   pub next : (s : ℕ) (one : Bool) → s < count →
@@ -62,7 +76,7 @@ AreAhead place cursors = (v : ℕ) → v < 3 → place ≤ slice_index cursors.n
 pub record HaveMovedOn (gates : List Gate) (place : ℕ) (old new : Cursors) : Type 0 where
   pub wires : new.wires ≡ old.wires
   pub ahead : (v : ℕ) → v < 3 → slice_index old.next v ≡ place → place + 1 ≤ slice_index new.next v
-  pub next : (v : ℕ) → v < 3 → slice_index old.next v ≡ place → Touches (gate_at gates place) (slice_index old.wires v) →
+  pub next : (v : ℕ) → v < 3 → slice_index old.next v ≡ place → slice_index old.wires v ≢ no_wire → Touches (gate_at gates place) (slice_index old.wires v) →
       IsNextOn gates (slice_index old.wires v) (place + 1) (slice_index new.next v)
   pub others : (v : ℕ) → v < 3 → slice_index old.next v ≢ place → slice_index new.next v ≡ slice_index old.next v
 

@@ -1,13 +1,14 @@
 ghost use Rattle.std.specs.Prelude.{◌≡◌, ℕ, ◌+◌, ◌<◌, ◌≤◌, false, true, length, slice_index};
 ghost use Rattle.pq_gate.specs.Circuit.{IsOnWires};
 ghost use Rattle.pq_gate.specs.Kind.{kind_of};
-ghost use Rattle.pq_links.specs.Links.{AreLinked};
+ghost use Rattle.pq_links.specs.Wires.{wire_of};
+ghost use Rattle.pq_links.specs.Links.{IsNextOn};
 ghost use Rattle.pq_match.specs.Redex.{gate_at};
-ghost use Rattle.pq_match.specs.Seek.{AreAhead, HaveMovedOn, AreLedTo};
+ghost use Rattle.pq_match.specs.Seek.{AreLinkedSlots, IsTaken, AreAhead, HaveMovedOn, AreLedTo};
 
 use crate::search::are_of_one_kind;
 use pq_gate::Gate;
-use pq_links::{FAR, Links, wires_of};
+use pq_links::{FAR, Sides, next_on};
 
 /// Where a search stands on the wires of a pattern: for each the wire that it is led to, and the next place there
 /// that wasn't looked at. A wire that isn't led anywhere yet has `FAR`.
@@ -67,31 +68,45 @@ fn first_of_kind(gates: &[Gate], of_kind: Gate, from: u32, end: u32) -> u32
 }
 
 /// Moves the cursors that stand at a place on to the next one on their wires.
-pub fn move_on(gates: &[Gate], links: &Links, cursors: &mut Cursors, place: u32)
-    requires linked { AreLinked gates.now links.now }
+pub fn move_on(gates: &[Gate], next: &[Sides], cursors: &mut Cursors, place: u32)
+    requires linked { AreLinkedSlots gates.now next.now }
     requires place { place < length gates.now }
     ensures { HaveMovedOn gates.now place cursors.old cursors.new }
 {
     for wire in 0..3 {
         if cursors.next[wire] == place {
-            cursors.next[wire] = links.next_on(gates, place, cursors.wires[wire]);
+            // a free slot has no next place, and no cursor stands there
+            cursors.next[wire] = next_on(gates, next, place, cursors.wires[wire]).max(place + 1);
         }
     }
 }
 
 /// Leads the wires of a pattern's gate to those of the gate at a place, and their cursors behind it.
-pub fn lead_to(gates: &[Gate], links: &Links, cursors: &mut Cursors, of_gate: Gate, place: u32)
-    requires linked { AreLinked gates.now links.now }
+pub fn lead_to(gates: &[Gate], next: &[Sides], cursors: &mut Cursors, of_gate: Gate, place: u32)
+    requires linked { AreLinkedSlots gates.now next.now }
     requires place { place < length gates.now }
+    requires taken { IsTaken (gate_at gates.now place) }
     requires on_wires { IsOnWires 3 of_gate }
     ensures led { AreLedTo gates.now of_gate place cursors.old cursors.new }
     ensures ahead { AreAhead (place + 1) cursors.old → AreAhead (place + 1) cursors.new }
 {
-    let (first, second) = wires_of(of_gate);
-    let (to_first, to_second) = wires_of(gates[place as usize]);
-    let sides = links.next(gates, place);
-    cursors.wires[first as usize] = to_first;
-    cursors.next[first as usize] = sides.first;
-    cursors.wires[second as usize] = to_second;
-    cursors.next[second as usize] = sides.second;
+    let gate = gates[place as usize];
+    let sides = sides_at(gates, next, place);
+    let first = of_gate.first_wire() as usize;
+    let last = of_gate.last_wire() as usize;
+    cursors.wires[first] = gate.first_wire();
+    cursors.next[first] = sides.first as u32;
+    cursors.wires[last] = gate.last_wire();
+    cursors.next[last] = sides.second as u32;
+}
+
+// the next places on the wires of the gate at a place
+fn sides_at(gates: &[Gate], next: &[Sides], place: u32) -> Sides
+    requires linked { AreLinkedSlots gates.now next.now }
+    requires place { place < length gates.now }
+    requires taken { IsTaken (gate_at gates.now place) }
+    ensures first { IsNextOn gates.now (wire_of false (gate_at gates.now place)) (place + 1) result.first }
+    ensures second { IsNextOn gates.now (wire_of true (gate_at gates.now place)) (place + 1) result.second }
+{
+    next[place as usize]
 }

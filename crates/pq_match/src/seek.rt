@@ -1,32 +1,31 @@
-//! The search of one start along the wires. It says how far it looked: `reach` is more than each place that it
-//! looked at, and more than the number of gates where it came to their end.
+//! The search of one start along the wires, over slots with the next places on the wires. It says how far it looked:
+//! `reach` is more than each place that it looked at, and more than the number of slots where it came to their end.
 
-ghost use Rattle.std.specs.Prelude.{◌≡◌, ℕ, ◌+◌, ◌-◌, ◌<◌, ◌≤◌, length, slice_index, slice_set, true, ◌⊎◌};
+ghost use Rattle.std.specs.Prelude.{◌≡◌, ◌≢◌, ℕ, ◌+◌, ◌-◌, ◌<◌, ◌≤◌, length, slice_index, slice_set, true, ◌⊎◌};
 ghost use Rattle.pq_gate.specs.Circuit.{IsCircuit};
 ghost use Rattle.pq_gate.specs.Commuting.{Touches};
-ghost use Rattle.pq_links.specs.Links.{AreLinked, IsNextOn};
+ghost use Rattle.pq_links.specs.Links.{IsNextOn};
 ghost use Rattle.pq_match.specs.Redex.{gate_at};
 ghost use Rattle.pq_match.specs.Search.{IsNext, IsGrown, AreEight};
-ghost use Rattle.pq_match.specs.Seek.{AreCursors, AreAhead, SeeksFull, Seeks, StartsAt, IsRowAt, IsClear, IsSeenAt};
+ghost use Rattle.pq_match.specs.Seek.{AreLinkedSlots, AreCursors, AreAhead, SeeksFull, Seeks, StartsAt, IsRowAt, IsClear, IsSeenAt};
 
 use crate::cursors::{Cursors, lead_to, move_on, next_place};
 use crate::redex::Redex;
 use crate::search::{are_of_one_kind, fits, is_passable, stands_apart};
 use pq_gate::{Gate, Ports};
-use pq_limits::{MAX_ROW_GATES, MAX_SEGMENT};
-use pq_links::{FAR, Links};
+use pq_limits::MAX_ROW_GATES;
+use pq_links::{FAR, NO_WIRE, Sides, next_on};
 use pq_rules::{Rules, Seen, role_of};
 
-/// The first redex whose first place is the start, and how far the search looked.
+/// The first redex of the slots whose first place is the start, and how far the search looked.
 pub fn seek_from(
     gates: &[Gate],
-    links: &Links,
+    next: &[Sides],
     rules: &Rules,
     start: u32,
     reach: &mut u32,
 ) -> Option<Redex>
-    requires linked { AreLinked gates.now links.now }
-    requires few { length gates.now ≤ MAX_SEGMENT }
+    requires linked { AreLinkedSlots gates.now next.now }
     requires start { start < length gates.now }
     requires reach { start < reach.old }
     ensures more { reach.old ≤ reach.new }
@@ -34,14 +33,18 @@ pub fn seek_from(
 {
     let gate = gates[start as usize];
     let wire = gate.last_wire();
-    let near = links.next(gates, start).second;
-    let far = place_behind(gates, links, near, wire);
+    if wire == NO_WIRE {
+        let _sound = rules.count();
+        return None;
+    }
+    let near = next_on(gates, next, start, wire);
+    let far = place_behind(gates, next, near, wire);
     let one = see(gates, near, wire);
     let other = see(gates, far, wire);
     let count = gates.len() as u32;
     *reach = (*reach).max(near.min(count) + 1).max(far.min(count) + 1);
     for number in rules.rows_admitting(gate, one, other) {
-        if let Some(redex) = seek_row(gates, links, rules, *number, start, reach) {
+        if let Some(redex) = seek_row(gates, next, rules, *number, start, reach) {
             return Some(redex);
         }
     }
@@ -49,14 +52,15 @@ pub fn seek_from(
 }
 
 // the next place on the wire behind this one, or FAR where this one is past the end
-fn place_behind(gates: &[Gate], links: &Links, place: u32, wire: u32) -> u32
-    requires linked { AreLinked gates.now links.now }
+fn place_behind(gates: &[Gate], next: &[Sides], place: u32, wire: u32) -> u32
+    requires linked { AreLinkedSlots gates.now next.now }
+    requires wire { wire ≢ NO_WIRE }
     requires uses { place < length gates.now → Touches (gate_at gates.now place) wire }
     ensures next { (IsNextOn gates.now wire (place + 1) result) ⊎ (length gates.now ≤ place) }
     ensures past { length gates.now ≤ place → result ≡ FAR }
 {
     if (place as usize) < gates.len() {
-        links.next_on(gates, place, wire)
+        next_on(gates, next, place, wire)
     } else {
         FAR
     }
@@ -90,14 +94,13 @@ fn has_one_wire(gate: Gate) -> bool
 // the first of these redexes that are of this row
 fn seek_row(
     gates: &[Gate],
-    links: &Links,
+    next: &[Sides],
     rules: &Rules,
     number: u32,
     start: u32,
     reach: &mut u32,
 ) -> Option<Redex>
-    requires linked { AreLinked gates.now links.now }
-    requires few { length gates.now ≤ MAX_SEGMENT }
+    requires linked { AreLinkedSlots gates.now next.now }
     requires start { start < length gates.now }
     requires reach { start < reach.old }
     ensures more { reach.old ≤ reach.new }
@@ -108,7 +111,7 @@ fn seek_row(
     };
     let pattern = row.pattern();
     let cursors = Cursors::new();
-    let Some(places) = choose(gates, links, pattern, &[0; 8], 0, &cursors, start, reach) else {
+    let Some(places) = choose(gates, next, pattern, &[0; 8], 0, &cursors, start, reach) else {
         return None;
     };
     Some(Redex {
@@ -122,7 +125,7 @@ fn seek_row(
 #[cycle(seeking)]
 fn choose(
     gates: &[Gate],
-    links: &Links,
+    next: &[Sides],
     pattern: &[Gate],
     places: &[u32; 8],
     count: usize,
@@ -130,8 +133,7 @@ fn choose(
     place: u32,
     reach: &mut u32,
 ) -> Option<[u32; 8]>
-    requires linked { AreLinked gates.now links.now }
-    requires few { length gates.now ≤ MAX_SEGMENT }
+    requires linked { AreLinkedSlots gates.now next.now }
     requires short { length pattern.now ≤ MAX_ROW_GATES }
     requires on_wires { IsCircuit 3 pattern.now }
     requires next { count < length pattern.now }
@@ -154,16 +156,16 @@ fn choose(
         return Some(grown);
     }
     let mut moved = *cursors;
-    move_on(gates, links, &mut moved, place);
-    lead_to(gates, links, &mut moved, pattern[count], place);
-    seek(gates, links, pattern, &grown, count + 1, &moved, reach)
+    move_on(gates, next, &mut moved, place);
+    lead_to(gates, next, &mut moved, pattern[count], place);
+    seek(gates, next, pattern, &grown, count + 1, &moved, reach)
 }
 
 // The same, where the kind of the gate is looked at first.
 #[cycle(seeking)]
 fn choose_by_kind(
     gates: &[Gate],
-    links: &Links,
+    next: &[Sides],
     pattern: &[Gate],
     places: &[u32; 8],
     count: usize,
@@ -171,8 +173,7 @@ fn choose_by_kind(
     place: u32,
     reach: &mut u32,
 ) -> Option<[u32; 8]>
-    requires linked { AreLinked gates.now links.now }
-    requires few { length gates.now ≤ MAX_SEGMENT }
+    requires linked { AreLinkedSlots gates.now next.now }
     requires short { length pattern.now ≤ MAX_ROW_GATES }
     requires on_wires { IsCircuit 3 pattern.now }
     requires next { count < length pattern.now }
@@ -189,22 +190,21 @@ fn choose_by_kind(
     if !are_of_one_kind(gates[place as usize], pattern[count]) {
         return None;
     }
-    choose(gates, links, pattern, places, count, cursors, place, reach)
+    choose(gates, next, pattern, places, count, cursors, place, reach)
 }
 
 // Chooses the least places for the gates of the pattern that have none yet.
 #[cycle(seeking)]
 fn seek(
     gates: &[Gate],
-    links: &Links,
+    next: &[Sides],
     pattern: &[Gate],
     places: &[u32; 8],
     count: usize,
     cursors: &Cursors,
     reach: &mut u32,
 ) -> Option<[u32; 8]>
-    requires linked { AreLinked gates.now links.now }
-    requires few { length gates.now ≤ MAX_SEGMENT }
+    requires linked { AreLinkedSlots gates.now next.now }
     requires short { length pattern.now ≤ MAX_ROW_GATES }
     requires on_wires { IsCircuit 3 pattern.now }
     requires next { count < length pattern.now }
@@ -223,14 +223,14 @@ fn seek(
     *reach = (*reach).max(place + 1);
     'walk: while (place as usize) < gates.len() {
         if let Some(found) = choose_by_kind(
-            gates, links, pattern, places, count, &moved, place, reach,
+            gates, next, pattern, places, count, &moved, place, reach,
         ) {
             return Some(found);
         }
         if !is_passable(gates, places, count, place) {
             return None;
         }
-        move_on(gates, links, &mut moved, place);
+        move_on(gates, next, &mut moved, place);
         place = next_place(gates, &moved, free, pattern[count], place + 1);
         *reach = (*reach).max(place + 1);
     }

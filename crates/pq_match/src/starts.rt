@@ -1,13 +1,17 @@
 //! The first redex of a segment, start by start.
 
-ghost use Rattle.std.specs.Prelude.{◌≡◌, ◌+◌, ◌<◌, ◌≤◌, ◌↔◌, None, length, IfSome, IfNone, vec_len, vec_capacity};
+ghost use Rattle.std.specs.Prelude.{◌≡◌, ◌+◌, ◌<◌, ◌≤◌, ◌↔◌, true, None, length, IfSome, IfNone, vec_len, vec_capacity};
+ghost use Rattle.pq_links.specs.Slots.{AreSlots};
 ghost use Rattle.pq_match.specs.Redex.{HasNoRedex};
 ghost use Rattle.pq_match.specs.Found.{IsFirstFound, FindsWithin};
 ghost use Rattle.pq_match.specs.Seek.{AreTried, TriesStart, IsNoted};
 
 use crate::redex::Redex;
+use crate::search::find_within;
 use crate::seek::seek_from;
 use crate::segment::Seg;
+use pq_gate::Gate;
+use pq_links::NO_WIRE;
 use pq_rules::Rules;
 
 /// The first redex of a segment: the least first place, then the least row, then the least places in
@@ -27,13 +31,28 @@ fn first_redex(seg: &Seg, rules: &Rules) -> Option<Redex>
 {
     let gates = seg.gates.as_slice();
     let count = gates.len() as u32;
+    if !are_slots(gates) {
+        return find_within(gates, rules, count);
+    }
     for start in 0..count {
         let mut reach = start + 1;
-        if let Some(first) = seek_from(gates, &seg.links, rules, start, &mut reach) {
+        if let Some(first) = seek_from(gates, seg.links.nexts(), rules, start, &mut reach) {
             return Some(first);
         }
     }
     None
+}
+
+// whether no gate uses the number that stands for no wire
+fn are_slots(gates: &[Gate]) -> bool
+    ensures { result ≡ true → AreSlots gates.now }
+{
+    for gate in gates {
+        if gate.touches(NO_WIRE) {
+            return false;
+        }
+    }
+    true
 }
 
 impl Seg {
@@ -58,6 +77,9 @@ impl Seg {
         ensures tried { AreTried rules.now self.new.items self.new.tried }
     {
         let count = self.gates.len() as u32;
+        if !are_slots(self.gates.as_slice()) {
+            return find_first(self, rules);
+        }
         for start in 0..count {
             if let Some(first) = self.try_start(rules, start) {
                 return Some(first);
@@ -69,6 +91,7 @@ impl Seg {
     // the first redex that begins at the start
     fn try_start(&mut self, rules: &Rules, start: u32) -> Option<Redex>
         requires tried { AreTried rules.now self.old.items self.old.tried }
+        requires slots { AreSlots self.old.items }
         requires inside { start < length self.old.items }
         requires next { start ≤ length self.old.tried }
         ensures finds { TriesStart rules.now self.old.items start result }
@@ -84,7 +107,7 @@ impl Seg {
         let mut looked = start + 1;
         let found = seek_from(
             self.gates.as_slice(),
-            &self.links,
+            self.links.nexts(),
             rules,
             start,
             &mut looked,

@@ -3,6 +3,8 @@ use Rattle.pq_match.proofs.Growing.{eight_more, grown_more, grown_is_full}
 use Rattle.pq_match.proofs.GrowingWalk.{walk_finds}
 use Rattle.pq_match.proofs.Seeking.{walked_here, alike_starts, alike_passes, alike_goes_on, alike_is_stuck, alike_ends, alike_misfits, alike_of_kind}
 use Rattle.pq_match.proofs.CursorLaws.{cursors_apart, cursors_on, cursors_moved, moved_ahead, cursors_led, all_seen, one_seen, last_is}
+use Rattle.pq_match.proofs.Taken.{place_taken}
+use Rattle.pq_match.proofs.SearchGates.{gate_on_wires}
 use Rattle.pq_match.specs.Seek.{AreCursors, AreAhead}
 use Rattle.pq_match.proofs.seek.+seeking.Goals as goal
 
@@ -19,6 +21,14 @@ choose-returns-then-count-pattern-clause-finds t c =
     (grown_more c.requires.grown c.requires.eight room c.requires.behind c.requires.place (c.if-not-fits.ensures.0 refl))
     (eight_more c.args.place c.requires.eight room)
 
+pub choose-lead_to-requires : goal.choose-lead_to-requires
+choose-lead_to-requires t c = record {
+  linked = c.requires.linked;
+  place = c.requires.place;
+  taken = place_taken c.requires.linked.are c.requires.on_wires c.requires.next c.requires.eight (omega arith) c.requires.place (c.if-not-fits.ensures.0 refl);
+  on_wires = gate_on_wires 3 c.args.pattern.now c.requires.on_wires c.args.count c.requires.next;
+}
+
 pub choose-seek-requires : goal.choose-seek-requires
 choose-seek-requires t c =
     let room : c.args.count < 8 = omega arith in
@@ -30,26 +40,23 @@ choose-seek-requires t c =
       (
         c.requires.linked,
         (
-          c.requires.few,
+          c.requires.short,
           (
-            c.requires.short,
+            c.requires.on_wires,
             (
-              c.requires.on_wires,
+              omega arith,
               (
                 omega arith,
                 (
-                  omega arith,
+                  grown_more c.requires.grown c.requires.eight room c.requires.behind c.requires.place fits,
                   (
-                    grown_more c.requires.grown c.requires.eight room c.requires.behind c.requires.place fits,
+                    eight_more c.args.place c.requires.eight room,
                     (
-                      eight_more c.args.place c.requires.eight room,
+                      subst (λ (p : ℕ). AreCursors c.args.gates.now c.args.pattern.now (set c.args.places.now c.args.count c.args.place) (c.args.count + 1) (p + 1) c.lead_to.new.cursors) (sym last)
+                          (cursors_led moved (place_taken c.requires.linked.are c.requires.on_wires c.requires.next c.requires.eight room c.requires.place fits) c.lead_to.ensures.led fits c.requires.eight room),
                       (
-                        subst (λ (p : ℕ). AreCursors c.args.gates.now c.args.pattern.now (set c.args.places.now c.args.count c.args.place) (c.args.count + 1) (p + 1) c.lead_to.new.cursors) (sym last)
-                            (cursors_led moved c.lead_to.ensures.led fits c.requires.eight room),
-                        (
-                          subst (λ (p : ℕ). AreAhead (p + 1) c.lead_to.new.cursors) (sym last) ahead,
-                          subst (λ (p : ℕ). p < c.args.reach.now) (sym last) c.requires.reach,
-                        ),
+                        subst (λ (p : ℕ). AreAhead (p + 1) c.lead_to.new.cursors) (sym last) ahead,
+                        subst (λ (p : ℕ). p < c.args.reach.now) (sym last) c.requires.reach,
                       ),
                     ),
                   ),
@@ -88,19 +95,16 @@ seek-choose_by_kind-requires t c = (
   (
     c.requires.linked,
     (
-      c.requires.few,
+      c.requires.short,
       (
-        c.requires.short,
+        c.requires.on_wires,
         (
-          c.requires.on_wires,
+          c.requires.next,
           (
-            c.requires.next,
+            omega arith,
             (
-              omega arith,
-              (
-                c.requires.grown,
-                ((walked_here c.walk.invariant.walked).next, (c.requires.eight, (c.walk.invariant.cursors, (c.walk.invariant.ahead, c.walk.invariant.seen)))),
-              ),
+              c.requires.grown,
+              ((walked_here c.walk.invariant.walked).next, (c.requires.eight, (c.walk.invariant.cursors, (c.walk.invariant.ahead, c.walk.invariant.seen)))),
             ),
           ),
         ),

@@ -1,9 +1,19 @@
-use Rattle.std.proofs.Common.{ℕ, ◌+◌, ◌≤◌, ◌⊎◌, inl, inr, length, subst, arith}
+use Rattle.std.proofs.Common.{true, sym, ◌∙◌, ℕ, ◌+◌, ◌≤◌, ◌⊎◌, inl, inr, length, subst, arith}
 use Rattle.std.proofs.lemmas.Bool.{cases_lt}
+use Rattle.pq_gate.specs.Commuting.{Touches}
+use Rattle.pq_links.proofs.Touching.{touching}
+use Rattle.pq_match.specs.Redex.{gate_at}
+use Rattle.pq_match.proofs.Taken.{none_at_free}
 use Rattle.pq_links.specs.Links.{IsNextOn}
 use Rattle.pq_match.specs.Seek.{IsSeenAt}
 use Rattle.pq_match.proofs.SeekRow.{admitting_candidates, none_tried_alike, tried_more_alike, tried_all_alike, tried_first_alike}
 use Rattle.pq_match.proofs.seek.seek_from.Goals as goal
+
+pub returns-then-wire-clause-finds : goal.returns-then-wire-clause-finds
+returns-then-wire-clause-finds c =
+    none_at_free c.args.reach.now c.count-sound.ensures.sound c.requires.reach
+    (c.requires.linked.are c.args.start c.requires.start
+    (subst (Touches (gate_at c.args.gates.now c.args.start)) (sym c.last_wire-wire.ensures ∙ c.if-wire.true) (touching (gate_at c.args.gates.now c.args.start) true)))
 
 pub loop-number-init : goal.loop-number-init
 loop-number-init c =
@@ -12,13 +22,13 @@ loop-number-init c =
     record {
       seen = omega arith;
       more = omega arith;
-      tried = none_tried_alike (admitting_candidates c.args.rules.now gates c.args.start c.max-2.result c.next-near.result.second c.place_behind-far.result c.see-one.result c.see-other.result
+      tried = none_tried_alike (admitting_candidates c.args.rules.now gates c.args.start c.max-2.result c.next_on-near.result c.place_behind-far.result c.see-one.result c.see-other.result
           c.rows_admitting-number-items.result.now c.rows_admitting-number-items.ensures.sound (omega arith)
-          (elim (cases_lt c.next-near.result.second (length gates)) [ inl inside ↦ inl (omega arith) | inr past ↦ inr (omega arith) ])
+          (elim (cases_lt c.next_on-near.result (length gates)) [ inl inside ↦ inl (omega arith) | inr past ↦ inr (omega arith) ])
           (elim (cases_lt c.place_behind-far.result (length gates)) [ inl inside ↦ inl (omega arith) | inr past ↦ inr (omega arith) ])
-          c.next-near.ensures.second
-          (subst (λ (w : ℕ). IsNextOn gates w (c.next-near.result.second + 1) c.place_behind-far.result ⊎ (length gates ≤ c.next-near.result.second)) wire c.place_behind-far.ensures.next)
-          (subst (λ (w : ℕ). IsSeenAt gates w c.next-near.result.second c.see-one.result) wire c.see-one.ensures)
+          (subst (λ (w : ℕ). IsNextOn gates w (c.args.start + 1) c.next_on-near.result) wire (c.next_on-near.ensures.next c.if-wire.false (subst (Touches (gate_at gates c.args.start)) (sym wire) (touching (gate_at gates c.args.start) true))))
+          (subst (λ (w : ℕ). IsNextOn gates w (c.next_on-near.result + 1) c.place_behind-far.result ⊎ (length gates ≤ c.next_on-near.result)) wire c.place_behind-far.ensures.next)
+          (subst (λ (w : ℕ). IsSeenAt gates w c.next_on-near.result c.see-one.result) wire c.see-one.ensures)
           (subst (λ (w : ℕ). IsSeenAt gates w c.place_behind-far.result c.see-other.result) wire c.see-other.ensures)
           c.rows_admitting-number-items.ensures.numbers);
     }
