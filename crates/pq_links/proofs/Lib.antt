@@ -1,3 +1,9 @@
 pub mod Touching
-pub mod Chains
+pub mod Buckets
 pub mod Pushing
+pub mod Neighbours
+pub mod Leading
+pub mod Changing
+pub mod Linking
+pub mod Filling
+pub mod Spreading

@@ -3,3 +3,5 @@ pub mod Wires
 pub mod Places
 pub mod Links
 pub mod Slots
+-- what only private functions and proofs speak of
+pub mod Leading

@@ -55,3 +55,9 @@ pub record AreChained (slots : List Gate) (ahead behind : List Sides) : Type 0 w
 pub record IsGap (slots : List Gate) (wire place last next : ℕ) : Type 0 where
   pub before : IsLastOn slots wire place last
   pub after : IsNextOn slots wire place next
+
+-- chains of slots: the next and the previous place on each wire of each gate, and the room that was asked for
+pub record ChainsView : Type 0 where
+  pub next : List Sides
+  pub previous : List Sides
+  pub room : ℕ

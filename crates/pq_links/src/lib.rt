@@ -1,8 +1,10 @@
 //! Neighbours on wires: for each gate of a list and each of its wires the next place on that wire.
 #![tactic(auto)]
 
+mod chains;
 mod links;
 mod wires;
 
+pub use chains::{Chains, Gap};
 pub use links::{FAR, Links, NO_WIRE, Sides, next_on};
 pub use wires::wires_of;

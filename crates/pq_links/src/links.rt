@@ -155,6 +155,7 @@ pub fn next_on(gates: &[Gate], next: &[Sides], place: u32, wire: u32) -> u32
     requires long { length next.now ≡ length gates.now }
     requires linked { AreNext gates.now next.now }
     requires place { place < length gates.now }
+    ensures fits { result ≤ FAR }
     ensures next { wire ≢ NO_WIRE → Touches (gate_at gates.now place) wire → IsNextOn gates.now wire (place + 1) result }
 {
     side_on(gates, next, place, wire)
@@ -164,7 +165,8 @@ pub fn next_on(gates: &[Gate], next: &[Sides], place: u32, wire: u32) -> u32
 fn side_on(gates: &[Gate], sides: &[Sides], place: u32, wire: u32) -> u32
     requires long { length sides.now ≡ length gates.now }
     requires place { place < length gates.now }
-    ensures { (one : Bool) × (Touches (gate_at gates.now place) wire → wire ≡ wire_of one (gate_at gates.now place)) × (result ≡ side_at one sides.now place) }
+    ensures fits { result ≤ FAR }
+    ensures noted { (one : Bool) × (Touches (gate_at gates.now place) wire → wire ≡ wire_of one (gate_at gates.now place)) × (result ≡ side_at one sides.now place) }
 {
     let noted = sides[place as usize];
     if gates[place as usize].first_wire() == wire {
@@ -203,8 +205,8 @@ fn last_on(gates: &[Gate], before: &[Sides], heads: &[u16], wire: u32) -> u32
 }
 
 // leads on from the last gate on the wire to this place
-fn lead(gates: &[Gate], next: &mut [Sides], last: u32, wire: u32, place: u32)
-    requires fits { place < FAR }
+pub(crate) fn lead(gates: &[Gate], next: &mut [Sides], last: u32, wire: u32, place: u32)
+    requires fits { place ≤ FAR }
     requires long { length next.old ≡ length gates.now }
     ensures led { (one : Bool) → last < length gates.now → wire_of one (gate_at gates.now last) ≡ wire → side_at one next.new last ≡ place }
     ensures others { (p : ℕ) (one : Bool) → (p ≡ last → wire_of one (gate_at gates.now p) ≡ wire → ⊥) → side_at one next.new p ≡ side_at one next.old p }

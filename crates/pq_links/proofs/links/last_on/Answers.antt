@@ -1,7 +1,7 @@
 use Rattle.std.proofs.Common.{◌%◌, false, true, ap, subst, ◌∙◌, length, sym, arith}
 use Rattle.pq_links.specs.Links.{side_at, IsLastIn}
 use Rattle.pq_links.specs.Places.{gate_at}
-use Rattle.pq_links.proofs.Chains.{back_starts, back_more, other_side, uses_neither, earlier_less}
+use Rattle.pq_links.proofs.Buckets.{back_starts, back_more, other_side, uses_neither, earlier_less}
 use Rattle.pq_links.proofs.links.last_on.Goals as goal
 
 pub back-init : goal.back-init

@@ -1,5 +1,5 @@
 use Rattle.std.proofs.Common.{◌+◌, ◌%◌}
-use Rattle.pq_links.proofs.Chains.{IsBack}
+use Rattle.pq_links.proofs.Buckets.{IsBack}
 use Rattle.pq_links.proofs.links.last_on.Given as goal
 
 abbrev pub invariant-back : goal.invariant-back

@@ -1,0 +1,60 @@
+-- Sides that are led on for both wires of a gate.
+use Rattle.std.proofs.Common.{◌≡◌, ℕ, ◌<◌, Bool, true, false, List, length, sym, ap, subst, ◌∙◌, arith, inl, inr, ◌⊎◌}
+use Rattle.std.proofs.lemmas.Bool.{cases_order}
+use Rattle.pq_gate.specs.declared.gate.Gate.{Gate}
+use Rattle.pq_links.specs.declared.links.Sides.{Sides}
+use Rattle.pq_links.specs.Wires.{wire_of}
+use Rattle.pq_links.specs.Places.{gate_at}
+use Rattle.pq_links.specs.Links.{side, side_at}
+use Rattle.pq_links.specs.Leading.{IsLedAt, AreLed}
+use Rattle.pq_links.proofs.Pushing.{IsLed}
+
+-- one number is another or isn't
+same_or_not : (a b : ℕ) → (a ≡ b) ⊎ (a ≡ b → ⊥)
+same_or_not a b = elim (cases_order a b) [ inl same ↦ inl same | inr apart ↦ elim apart [ inl less ↦ inr (λ same. omega arith) | inr more ↦ inr (λ same. omega arith) ] ]
+
+each_led : (slots : List Gate) (gate : Gate) (at to : Sides) (old mid new : List Sides) → IsLed slots old mid at.first (wire_of false gate) to.first →
+    IsLed slots mid new at.second (wire_of true gate) to.second →
+    (p : ℕ) (one : Bool) → p < length slots → ((w : Bool) × IsLedAt slots gate at one p w × (side_at one new p ≡ side w to)) ⊎ (((w : Bool) → ¬ IsLedAt slots gate at one p w) × (side_at one new p ≡ side_at one old p))
+each_led slots gate at to old mid new first second p one below =
+    by (same_or_not p at.second) (same_or_not (wire_of one (gate_at slots p)) (wire_of true gate)) (same_or_not p at.first) (same_or_not (wire_of one (gate_at slots p)) (wire_of false gate))
+  where
+    by_first : side_at one new p ≡ side_at one mid p → (¬ IsLedAt slots gate at one p true) → (p ≡ at.first) ⊎ (p ≡ at.first → ⊥) →
+        (wire_of one (gate_at slots p) ≡ wire_of false gate) ⊎ (wire_of one (gate_at slots p) ≡ wire_of false gate → ⊥) →
+        ((w : Bool) × IsLedAt slots gate at one p w × (side_at one new p ≡ side w to)) ⊎ (((w : Bool) → ¬ IsLedAt slots gate at one p w) × (side_at one new p ≡ side_at one old p))
+    by_first kept not_last (inl here) (inl on) =
+        inl (
+          false,
+          record { here = here; on = on },
+          kept ∙ (ap (λ (q : ℕ). side_at one mid q) here
+              ∙ first.led one (subst (λ (q : ℕ). q < length slots) here below) (ap (λ (q : ℕ). wire_of one (gate_at slots q)) (sym here) ∙ on)),
+        )
+    by_first kept not_last (inr other) _ = inr (neither, kept ∙ first.others p one (λ here _. other here))
+      where
+        neither : (w : Bool) → ¬ IsLedAt slots gate at one p w
+        neither true led = not_last led
+        neither false led = other led.here
+    by_first kept not_last _ (inr other) = inr (neither, kept ∙ first.others p one (λ _ on. other on))
+      where
+        neither : (w : Bool) → ¬ IsLedAt slots gate at one p w
+        neither true led = not_last led
+        neither false led = other led.on
+
+    by : (p ≡ at.second) ⊎ (p ≡ at.second → ⊥) → (wire_of one (gate_at slots p) ≡ wire_of true gate) ⊎ (wire_of one (gate_at slots p) ≡ wire_of true gate → ⊥) →
+        (p ≡ at.first) ⊎ (p ≡ at.first → ⊥) → (wire_of one (gate_at slots p) ≡ wire_of false gate) ⊎ (wire_of one (gate_at slots p) ≡ wire_of false gate → ⊥) →
+        ((w : Bool) × IsLedAt slots gate at one p w × (side_at one new p ≡ side w to)) ⊎ (((w : Bool) → ¬ IsLedAt slots gate at one p w) × (side_at one new p ≡ side_at one old p))
+    by (inl here) (inl on) _ _ =
+        inl (
+          true,
+          record { here = here; on = on },
+          ap (λ (q : ℕ). side_at one new q) here ∙ second.led one (subst (λ (q : ℕ). q < length slots) here below) (ap (λ (q : ℕ). wire_of one (gate_at slots q)) (sym here) ∙ on),
+        )
+    by (inr other) _ at_first on_first = by_first (second.others p one (λ here _. other here)) (λ led. other led.here) at_first on_first
+    by _ (inr other) at_first on_first = by_first (second.others p one (λ _ on. other on)) (λ led. other led.on) at_first on_first
+
+pub led_twice : (slots : List Gate) (gate : Gate) (at to : Sides) (old mid new : List Sides) (first last : ℕ) → first ≡ wire_of false gate → last ≡ wire_of true gate →
+    IsLed slots old mid at.first first to.first → IsLed slots mid new at.second last to.second → length new ≡ length old → AreLed slots gate at to old new
+led_twice slots gate at to old mid new first last first_is last_is one other long = record {
+  long = long;
+  each = each_led slots gate at to old mid new (subst (λ (w : ℕ). IsLed slots old mid at.first w to.first) first_is one) (subst (λ (w : ℕ). IsLed slots mid new at.second w to.second) last_is other);
+}

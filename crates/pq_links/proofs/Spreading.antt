@@ -1,0 +1,150 @@
+-- Slots where each gate has a free one behind it.
+use Rattle.std.proofs.Common.{◌≡◌, ◌≢◌, ℕ, ◌+◌, ◌*◌, ◌<◌, ◌≤◌, Bool, true, false, List, [], ◌∷◌, ◌++◌, zero, suc, length, refl, sym, ap, subst, ◌∙◌, arith, inl, inr, ◌⊎◌}
+use Rattle.std.proofs.lemmas.Bool.{cases_lt}
+use Rattle.std.proofs.lemmas.Bool.Decides.{nat_tests}
+use Rattle.std.proofs.lemmas.List.{length-append}
+use Rattle.std.proofs.Math.ListN.{get_or-append}
+use Rattle.std.proofs.Math.Seq.{get_or-append_seam}
+use Rattle.pq_gate.specs.declared.gate.Gate.{Gate}
+use Rattle.pq_gate.specs.Commuting.{Touches}
+use Rattle.pq_links.specs.declared.links.Sides.{Sides}
+use Rattle.pq_links.specs.Wires.{wire_of}
+use Rattle.pq_links.specs.Places.{gate_at}
+use Rattle.pq_links.specs.Links.{side, side_at, far, IsNextOn}
+use Rattle.pq_links.specs.Slots.{no_wire, free_slot, spread, AreNext, ArePrevious, AreChained}
+use Rattle.pq_links.specs.Leading.{doubled, AreSpread, LeadNowhere}
+use Rattle.pq_links.proofs.Changing.{free_uses, free_wire}
+
+-- there are twice as many slots
+pub length_spread : (gates : List Gate) → length (spread gates) ≡ 2 * length gates
+length_spread [] = refl
+length_spread (gate ∷ gates) = (let h : length (spread gates) ≡ 2 * length gates = length_spread gates in omega arith)
+
+-- each gate stands in the slot of twice its place
+pub own_slot : (gates : List Gate) (p : ℕ) → p < length gates → gate_at (spread gates) (2 * p) ≡ gate_at gates p
+own_slot [] p below = absurd (omega arith)
+own_slot (gate ∷ gates) zero below = refl
+own_slot (gate ∷ gates) (suc p) below =
+    let e : 2 * suc p ≡ suc (suc (2 * p)) = omega arith in
+    ap (λ (q : ℕ). gate_at (gate ∷ free_slot ∷ spread gates) q) e ∙ own_slot gates p (omega arith)
+
+-- and each other slot is free
+pub every_slot : (gates : List Gate) (q : ℕ) → q < length (spread gates) →
+    ((p : ℕ) × (q ≡ 2 * p) × (p < length gates) × (gate_at (spread gates) q ≡ gate_at gates p)) ⊎ (gate_at (spread gates) q ≡ free_slot)
+every_slot [] q below = absurd (omega arith)
+every_slot (gate ∷ gates) zero below = inl (0, refl, omega arith, refl)
+every_slot (gate ∷ gates) (suc zero) below = inr refl
+every_slot (gate ∷ gates) (suc (suc q)) below = elim (every_slot gates q (omega arith)) [ inl at ↦ inl (suc at.0, (let e : q ≡ 2 * at.0 = at.1 in omega arith), (let l : at.0 < length gates = at.2 in omega arith), at.3) | inr free ↦ inr free ]
+
+doubled_in : (count n : ℕ) → n < count → doubled count n ≡ 2 * n
+doubled_in count n below = grind (arith, nat_tests)
+
+doubled_past : (count n : ℕ) → count ≤ n → doubled count n ≡ far
+doubled_past count n past = grind (arith, nat_tests)
+
+-- the next place, in slots
+doubled_next : (gates : List Gate) (wire p n : ℕ) → wire ≢ no_wire → 2 * length gates < far → p < length gates → IsNextOn gates wire (p + 1) n →
+    IsNextOn (spread gates) wire (2 * p + 1) (doubled (length gates) n)
+doubled_next gates wire p n valid few inside next = by (cases_lt n (length gates))
+  where
+    none : (q : ℕ) → 2 * p + 1 ≤ q → (q < 2 * n) → q < length (spread gates) → ¬ Touches (gate_at (spread gates) q) wire
+    none q above below in_list = elim (every_slot gates q in_list) [
+      | inl at ↦ subst (λ (g : Gate). ¬ Touches g wire) (sym at.3) (let e : q ≡ 2 * at.0 = at.1 in next.none at.0 (omega arith) (omega arith) at.2)
+      | inr free ↦ free_uses wire (gate_at (spread gates) q) free valid
+    ]
+
+    by : (n < length gates) ⊎ (length gates ≤ n) → IsNextOn (spread gates) wire (2 * p + 1) (doubled (length gates) n)
+    by (inl below) = subst (λ (m : ℕ). IsNextOn (spread gates) wire (2 * p + 1) m) (sym (doubled_in (length gates) n below)) (let l : length (spread gates) ≡ 2 * length gates = length_spread gates in record {
+      ahead = (let a : p + 1 ≤ n = next.ahead in omega arith);
+      uses = λ _. subst (λ (g : Gate). Touches g wire) (sym (own_slot gates n below)) (next.uses below);
+      none = none;
+      past = λ past. absurd (omega arith);
+    })
+    by (inr past) = subst (λ (m : ℕ). IsNextOn (spread gates) wire (2 * p + 1) m) (sym (doubled_past (length gates) n past)) (let l : length (spread gates) ≡ 2 * length gates = length_spread gates in record {
+      ahead = omega arith;
+      uses = λ low. absurd (omega arith);
+      none = λ q above low in_list. none q above (omega arith) in_list;
+      past = λ _. refl;
+    })
+
+spread_next_is : (gates : List Gate) (sides next : List Sides) → 2 * length gates < far →
+    ((p : ℕ) (one : Bool) → p < length gates → IsNextOn gates (wire_of one (gate_at gates p)) (p + 1) (side_at one sides p)) →
+    AreSpread (length gates) (length gates) sides next → AreNext (spread gates) next
+spread_next_is gates sides next few linked spread_sides q one below valid = by (every_slot gates q below)
+  where
+    at_slot : (p : ℕ) → p < length gates → wire_of one (gate_at gates p) ≢ no_wire → IsNextOn (spread gates) (wire_of one (gate_at gates p)) (2 * p + 1) (side_at one next (2 * p))
+    at_slot p inside on =
+        subst (λ (n : ℕ). IsNextOn (spread gates) (wire_of one (gate_at gates p)) (2 * p + 1) n) (sym (spread_sides.each p one inside))
+        (doubled_next gates (wire_of one (gate_at gates p)) p (side_at one sides p) on few inside (linked p one inside))
+
+    by : ((p : ℕ) × (q ≡ 2 * p) × (p < length gates) × (gate_at (spread gates) q ≡ gate_at gates p)) ⊎ (gate_at (spread gates) q ≡ free_slot) →
+        IsNextOn (spread gates) (wire_of one (gate_at (spread gates) q)) (q + 1) (side_at one next q)
+    by (inr free) = absurd (valid (free_wire one (gate_at (spread gates) q) free))
+    by (inl (p, at, inside, same)) =
+        subst (λ (g : Gate). IsNextOn (spread gates) (wire_of one g) (q + 1) (side_at one next q)) (sym same)
+        (subst (λ (r : ℕ). IsNextOn (spread gates) (wire_of one (gate_at gates p)) (r + 1) (side_at one next r)) (sym at)
+        (at_slot p inside (subst (λ (g : Gate). wire_of one g ≢ no_wire) same valid)))
+
+pub spread_starts : (total : ℕ) (sides : List Sides) → AreSpread total 0 sides []
+spread_starts total sides = record { long = refl; each = λ p one below. absurd (omega arith) }
+
+pub spread_more : (total place : ℕ) (sides next : List Sides) (to apart : Sides) → AreSpread total place sides next → to.first ≡ doubled total (side_at false sides place) →
+    to.second ≡ doubled total (side_at true sides place) → AreSpread total (place + 1) sides ((next ++ to ∷ []) ++ apart ∷ [])
+spread_more total place sides next to apart old first second = (let l : length (next ++ to ∷ []) ≡ length next + 1 = length-append next (to ∷ []) in record {
+  long = length-append (next ++ to ∷ []) (apart ∷ []) ∙ (let o : length next ≡ 2 * place = old.long in let e : length (next ++ to ∷ []) + 1 ≡ 2 * (place + 1) = omega arith in e);
+  each = λ p one below. each p one below (cases_lt p place);
+})
+  where
+    own : (one : Bool) → side one to ≡ doubled total (side_at one sides place)
+    own true = second
+    own false = first
+
+    each : (p : ℕ) (one : Bool) → p < place + 1 → (p < place) ⊎ (place ≤ p) → side_at one ((next ++ to ∷ []) ++ apart ∷ []) (2 * p) ≡ doubled total (side_at one sides p)
+    each p one below (inl less) =
+        ap (λ (s : Sides). side one s)
+        (get_or-append (next ++ to ∷ []) (apart ∷ []) (record { first = 0; second = 0 }) (2 * p) (let l : length (next ++ to ∷ []) ≡ length next + 1 = length-append next (to ∷ []) in let o : length next ≡ 2 * place = old.long in omega arith)
+        ∙ get_or-append next (to ∷ []) (record { first = 0; second = 0 }) (2 * p) (let o : length next ≡ 2 * place = old.long in omega arith))
+        ∙ old.each p one less
+    each p one below (inr from) =
+        let here : p ≡ place = omega arith in
+        let at : 2 * p ≡ length next = (let o : length next ≡ 2 * place = old.long in omega arith) in
+        ap (λ (q : ℕ). side_at one ((next ++ to ∷ []) ++ apart ∷ []) q) at
+        ∙ (ap (λ (s : Sides). side one s)
+        (get_or-append (next ++ to ∷ []) (apart ∷ []) (record { first = 0; second = 0 }) (length next) (let l : length (next ++ to ∷ []) ≡ length next + 1 = length-append next (to ∷ []) in omega arith)
+        ∙ get_or-append_seam next to [] (record { first = 0; second = 0 }))
+        ∙ (own one ∙ ap (λ (q : ℕ). doubled total (side_at one sides q)) (sym here)))
+
+pub nowhere_starts : LeadNowhere []
+nowhere_starts p one below = absurd (omega arith)
+
+pub nowhere_more : (sides : List Sides) → LeadNowhere sides → LeadNowhere (sides ++ (record { first = far; second = far }) ∷ [])
+nowhere_more sides nowhere p one below = by (cases_lt p (length sides))
+  where
+    own : (one : Bool) → side one (record { first = far; second = far }) ≡ far
+    own true = refl
+    own false = refl
+
+    by : (p < length sides) ⊎ (length sides ≤ p) → side_at one (sides ++ (record { first = far; second = far }) ∷ []) p ≡ far
+    by (inl less) = ap (λ (s : Sides). side one s) (get_or-append sides ((record { first = far; second = far }) ∷ []) (record { first = 0; second = 0 }) p less) ∙ nowhere p one less
+    by (inr from) =
+        let here : p ≡ length sides = (let l = length-append sides ((record { first = far; second = far }) ∷ []) in omega (arith, length-append sides ((record { first = far; second = far }) ∷ []))) in
+        ap (λ (q : ℕ). side_at one (sides ++ (record { first = far; second = far }) ∷ []) q) here
+        ∙ (ap (λ (s : Sides). side one s) (get_or-append_seam sides (record { first = far; second = far }) [] (record { first = 0; second = 0 })) ∙ own one)
+
+-- the chains of slots where each gate has a free one behind it
+pub spread_next_of : (gates slots : List Gate) (sides next : List Sides) → slots ≡ spread gates → 2 * length gates < far →
+    ((p : ℕ) (one : Bool) → p < length gates → IsNextOn gates (wire_of one (gate_at gates p)) (p + 1) (side_at one sides p)) →
+    AreSpread (length gates) (length gates) sides next → AreNext slots next
+spread_next_of gates slots sides next same few linked spread_sides = subst (λ (xs : List Gate). AreNext xs next) (sym same) (spread_next_is gates sides next few linked spread_sides)
+
+pub spread_chained : (gates slots : List Gate) (sides next previous : List Sides) → slots ≡ spread gates → 2 * length gates < far →
+    ((p : ℕ) (one : Bool) → p < length gates → IsNextOn gates (wire_of one (gate_at gates p)) (p + 1) (side_at one sides p)) →
+    AreSpread (length gates) (length gates) sides next → length previous ≡ 2 * length gates → ArePrevious slots previous → AreChained slots next previous
+spread_chained gates slots sides next previous same few linked spread_sides long are_previous =
+    let twice : length slots ≡ 2 * length gates = ap (λ (xs : List Gate). length xs) same ∙ length_spread gates in
+    record {
+      nexts = spread_sides.long ∙ sym twice;
+      previouses = long ∙ sym twice;
+      next = spread_next_of gates slots sides next same few linked spread_sides;
+      previous = are_previous;
+    }

@@ -1,0 +1,33 @@
+-- What private functions say of lists of sides.
+use Rattle.std.specs.Prelude.{◌≡◌, ℕ, ◌*◌, ◌<◌, ◌⊎◌, Bool, cond, nat_lt, List, length}
+use Rattle.pq_gate.specs.declared.gate.Gate.{Gate}
+use Rattle.pq_links.specs.declared.links.Sides.{Sides}
+use Rattle.pq_links.specs.Wires.{wire_of}
+use Rattle.pq_links.specs.Places.{gate_at}
+use Rattle.pq_links.specs.Links.{side, side_at, far}
+
+-- The side at the place is for one of the gate's wires, and the place is the one that is given for this wire.
+pub record IsLedAt (slots : List Gate) (gate : Gate) (at : Sides) (one : Bool) (place : ℕ) (wire : Bool) : Type 0 where
+  pub here : place ≡ side wire at
+  pub on : wire_of one (gate_at slots place) ≡ wire_of wire gate
+
+-- Sides are led on for both wires of a gate: each side at the place for such a wire is set, and no other.
+pub record AreLed (slots : List Gate) (gate : Gate) (at to : Sides) (old new : List Sides) : Type 0 where
+  pub long : length new ≡ length old
+  pub each : (p : ℕ) (one : Bool) → p < length slots →
+      ((wire : Bool) × IsLedAt slots gate at one p wire × (side_at one new p ≡ side wire to))
+      ⊎ (((wire : Bool) → ¬ IsLedAt slots gate at one p wire) × (side_at one new p ≡ side_at one old p))
+
+-- a place in a list of so many gates, where each gate is in the slot of twice its place
+abbrev pub doubled : ℕ → ℕ → ℕ
+doubled count place = cond (nat_lt place count) (2 * place) far
+
+-- Sides of slots, where each of so many gates has a free slot behind it: a gate's sides lead to the slots of the places
+-- to which they led before. The list has `total` gates.
+pub record AreSpread (total count : ℕ) (sides spread : List Sides) : Type 0 where
+  pub long : length spread ≡ 2 * count
+  pub each : (p : ℕ) (one : Bool) → p < count → side_at one spread (2 * p) ≡ doubled total (side_at one sides p)
+
+-- no side leads anywhere
+abbrev pub LeadNowhere : List Sides → Type 0
+LeadNowhere sides = (p : ℕ) (one : Bool) → p < length sides → side_at one sides p ≡ far
