@@ -37,3 +37,8 @@ pub mod RewritingTests
 pub mod Ranks
 pub mod RankedRedexes
 pub mod RankedRewriting
+pub mod Spreading
+pub mod RunsAround
+pub mod Exchanging
+pub mod Keeping
+pub mod Placed
