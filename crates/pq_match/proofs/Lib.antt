@@ -27,6 +27,7 @@ pub mod SearchMatch
 pub mod SearchRow
 pub mod SearchNumbers
 pub mod SearchFrom
+pub mod SearchAdmits
 pub mod SearchWithin
 pub mod Roles
 pub mod Admitting

@@ -16,3 +16,4 @@ pub mod Seek
 pub mod Work
 pub mod Segment
 pub mod Search
+pub mod Within

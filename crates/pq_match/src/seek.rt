@@ -70,7 +70,7 @@ fn place_behind(gates: &[Gate], next: &[Sides], place: u32, wire: u32) -> u32
 }
 
 // what is seen at a place on a wire
-fn see(gates: &[Gate], place: u32, wire: u32) -> Seen
+pub(crate) fn see(gates: &[Gate], place: u32, wire: u32) -> Seen
     ensures { IsSeenAt gates.now wire place result }
 {
     if (place as usize) >= gates.len() {
