@@ -17,6 +17,8 @@ pub mod Staying
 pub mod CursorLaws
 pub mod LookingAlike
 pub mod Seeking
+pub mod TyingLaws
+pub mod Tying
 pub mod SearchWires
 pub mod SearchTouches
 pub mod SearchNear

@@ -12,5 +12,6 @@ pub mod First
 pub mod Rewrite
 pub mod Found
 pub mod Seek
+pub mod Ties
 pub mod Segment
 pub mod Search

@@ -14,6 +14,7 @@ mod segment;
 mod starts;
 #[cfg(test)]
 mod tests;
+mod ties;
 
 pub use redex::Redex;
 pub use search::find_within;
