@@ -291,7 +291,7 @@ fn use_wires(used: &mut [bool; 64], gate: Gate)
 }
 
 // whether the gate shares no wire with those before it
-pub(crate) fn stands_apart(pattern: &[Gate], number: usize) -> bool
+fn stands_apart(pattern: &[Gate], number: usize) -> bool
     requires { number < length pattern.now }
     ensures { IsTrue result ↔ ((before : ℕ) → before < number → AreApart (gate_at pattern.now before) (gate_at pattern.now number)) }
 {
