@@ -13,7 +13,7 @@ use std::alloc::Global;
 use std::marker::Model;
 
 /// How many cells are looked at one after another for the next live one, before the tree is asked.
-const NEAR: u64 = 32;
+const NEAR: u64 = 256;
 
 /// Cells that each hold a gate, or are a tombstone where a gate was taken out. Contracts see the list
 /// of cells, and its live gates: those that are left, in order of place. A place is the number of a
@@ -156,6 +156,25 @@ impl GateArray {
         } else {
             None
         }
+    }
+
+    /// The place before this one with so many live gates fewer before it: that of a live gate, or this place where none is
+    /// to be passed. It looks at one cell after another.
+    #[tactic(auto, using(crate::proofs::Backwards::back_none, crate::proofs::Backwards::back_some, crate::proofs::Backwards::back_more))]
+    pub fn back(&self, place: u64, count: u64) -> u64
+        requires inside { place ≤ length self.now }
+        requires enough { count ≤ rank self.now place }
+        ensures rank { rank self.now result + count ≡ rank self.now place }
+        ensures before { result ≤ place }
+        ensures live { 1 ≤ count → IsLive self.now result }
+    {
+        let mut at = place;
+        let mut left = count;
+        'cells: while left > 0 {
+            at -= 1;
+            left -= u64::from(self.gate_at(at).is_some());
+        }
+        at
     }
 
     /// Puts the output at the first of these places, in order, and tombstones at the others. The places

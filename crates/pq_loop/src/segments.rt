@@ -53,7 +53,14 @@ pub fn segments_of(
     let all = gaps_of(alloc, array, fingers)?;
     let selected = fingers.select(alloc, all.as_slice(), omega)?;
     let gaps = picked(alloc, all.as_slice(), selected.as_slice())?;
-    let jobs = jobs_of(alloc, array, gaps.as_slice(), omega)?;
+    let jobs = jobs_of(
+        alloc,
+        array,
+        gaps.as_slice(),
+        fingers.places(),
+        selected.as_slice(),
+        omega,
+    )?;
     Ok(Segments {
         omega,
         fingers: selected,
@@ -90,20 +97,33 @@ fn picked(alloc: Global, gaps: &[u64], indexes: &[u64]) -> Result<Vec<u64>, OutO
         .collect(alloc)
 }
 
-/// For each gap the places of the gates of its segment.
-fn jobs_of(alloc: Global, array: &GateArray, gaps: &[u64], omega: u32) -> Result<Jobs, OutOfMemory>
+/// For each gap the places of the gates of its segment. The gaps are those of the fingers with these indexes, of all that
+/// stand at these places.
+fn jobs_of(
+    alloc: Global,
+    array: &GateArray,
+    gaps: &[u64],
+    places: &[u64],
+    indexes: &[u64],
+    omega: u32,
+) -> Result<Jobs, OutOfMemory>
     requires omega { IsOmega omega }
     requires few { length array.now ≤ MAX_GATES }
     requires apart { AllPairs (λ gap later. gap + 2 * omega ≤ later) gaps.now }
     requires inside { All (λ gap. gap ≤ length (live array.now)) gaps.now }
+    requires places { All (λ place. place ≤ length array.now) places.now }
+    requires in_range { All (λ index. index < length places.now) indexes.now }
+    requires ranks { map (λ index. rank array.now (slice_index places.now index)) indexes.now ≡ gaps.now }
     ensures { IfOk result (λ jobs. AreJobs array.now omega gaps.now jobs) }
 {
     let mut jobs = Jobs::new(alloc);
-    let mut places = Vec::with_capacity(alloc, 2 * omega as usize)?;
+    let mut list = Vec::with_capacity(alloc, 2 * omega as usize)?;
     for gap in gaps {
         let (from, to) = segment(*gap, array.live(), omega);
-        put_places(&mut places, array, from, to);
-        jobs.add(places.as_slice())?;
+        let index = indexes[jobs.count() as usize];
+        let start = array.back(places[index as usize], *gap - from);
+        put_places(&mut list, array, start, from, to);
+        jobs.add(list.as_slice())?;
     }
     Ok(jobs)
 }
@@ -119,8 +139,10 @@ fn segment(gap: u64, live: u64, omega: u32) -> (u64, u64)
     (gap.saturating_sub(reach), live.min(gap + reach))
 }
 
-/// Makes the list that of the places of the live gates from one gap to another.
-fn put_places(list: &mut Vec<u64>, array: &GateArray, from: u64, to: u64)
+/// Makes the list that of the places of the live gates from one gap to another. The first gap is that of the start.
+fn put_places(list: &mut Vec<u64>, array: &GateArray, start: u64, from: u64, to: u64)
+    requires start { rank array.now start ≡ from }
+    requires start_inside { start ≤ length array.now }
     requires up { from ≤ to }
     requires inside { to ≤ length (live array.now) }
     requires room { to ≤ from + vec_capacity list.old }
@@ -130,22 +152,12 @@ fn put_places(list: &mut Vec<u64>, array: &GateArray, from: u64, to: u64)
     ensures capacity { vec_capacity list.new ≡ vec_capacity list.old }
 {
     list.clear();
-    let mut place = place_of(array, from);
+    let mut place = start;
     for _number in from..to {
         place = live_from(array, place);
         list.push_reserved(place);
         place += 1;
     }
-}
-
-/// The place of a gap: that of the live gate of this number, or the end.
-fn place_of(array: &GateArray, gap: u64) -> u64
-    requires { gap ≤ length (live array.now) }
-    ensures stands { IsTrue (stands array.now result) }
-    ensures rank { rank array.now result ≡ gap }
-    ensures inside { result ≤ length array.now }
-{
-    array.select(gap).unwrap_or(array.cells())
 }
 
 /// The least live place from this one on.
