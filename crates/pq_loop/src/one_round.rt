@@ -1,13 +1,11 @@
-ghost use Rattle.std.specs.Prelude.{◌≡◌, ◌≤◌, ℕ, List, All, IfOk, IsTrue, length, map};
-ghost use Rattle.pq_array.specs.Cells.{live, rank};
-ghost use Rattle.pq_gaps.specs.Gaps.{ascending};
+ghost use Rattle.std.specs.Prelude.{◌≡◌, ◌≤◌, All, IfOk, IsTrue, length};
+ghost use Rattle.pq_array.specs.Cells.{live};
 ghost use Rattle.pq_limits.specs.Limits.{AreWorkers, IsOmega};
-ghost use Rattle.pq_match.specs.Row.{IsSound};
 ghost use Rattle.pq_method.specs.Round.{Round};
 ghost use Rattle.pq_method.specs.Opt.{numbers_of};
 ghost use Rattle.pq_loop.specs.Loops.{cells_left};
 ghost use Rattle.pq_loop.specs.Receipts.{receipt_of};
-ghost use Rattle.pq_loop.specs.Segments.{stands, state_of, works_of, AreNumbersOf, AreMoved};
+ghost use Rattle.pq_loop.specs.Segments.{stands, state_of, AreNumbersOf, AreMoved};
 
 use crate::over_board::work_over_board;
 use crate::segments::{Segments, cuts_of, gaps_of, live_or_end, segments_of};
