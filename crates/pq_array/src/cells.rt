@@ -1,7 +1,8 @@
-ghost use Rattle.std.specs.Prelude.{◌≡◌, ℕ, ◌+◌, ◌<◌, ◌≤◌, None, length, slice_index, slice_index_or, All};
+ghost use Rattle.std.specs.Prelude.{◌≡◌, ℕ, ◌+◌, ◌<◌, ◌≤◌, Some, None, length, map, slice_index, slice_index_or, All};
 ghost use Rattle.std.specs.List.Sorted.{IsStrictlyIncreasing};
 ghost use Rattle.pq_array.specs.Cells.{live, rank, spliced, IsLiveRun, Replaces};
 
+use crate::cell::Cell;
 use pq_gate::Gate;
 use pq_list::crosses_threads;
 use std::marker::Model;
@@ -10,7 +11,7 @@ use std::marker::Model;
 /// takes memory.
 #[derive(Drop)]
 pub struct Cells {
-    items: Vec<Option<Gate>>,
+    items: Vec<Cell>,
 }
 
 impl Model for Cells {
@@ -24,10 +25,17 @@ impl Model for Cells {
 
 impl Cells {
     /// These cells.
-    pub(crate) fn of(items: Vec<Option<Gate>>) -> Cells
+    pub(crate) fn of(items: Vec<Cell>) -> Cells
         ensures { result ≡ items.items }
     {
         Cells { items }
+    }
+
+    /// All cells.
+    pub(crate) fn as_slice(&self) -> &[Cell]
+        ensures { result.now ≡ self.now }
+    {
+        self.items.as_slice()
     }
 
     /// The number of cells.
@@ -42,7 +50,7 @@ impl Cells {
         ensures { result ≡ slice_index_or self.now place None }
     {
         if place < self.count() {
-            self.items[place as usize]
+            self.items[place as usize].gate()
         } else {
             None
         }
@@ -59,17 +67,24 @@ impl Cells {
     {
         put(&mut self.items, places, output);
     }
+
+    /// Moves the live gates to the first places, in order, and lets the other cells go.
+    pub(crate) fn compact(&mut self)
+        ensures { self.new ≡ map (λ gate. Some gate) (live self.old) }
+    {
+        self.items.retain(|cell| cell.is_live());
+    }
 }
 
 /// Puts the output at the first of these places, in order, and tombstones at the others.
-fn put(cells: &mut [Option<Gate>], places: &[u64], output: &[Gate])
+fn put(cells: &mut [Cell], places: &[u64], output: &[Gate])
     requires inside { All (λ place. place < length cells.old) places.now }
     requires in_order { IsStrictlyIncreasing places.now }
     requires no_longer { length output.now ≤ length places.now }
     ensures { Replaces cells.old cells.new places.now output.now }
 {
     for (number, place) in places.iter().enumerate() {
-        cells[*place as usize] = output.get(number).copied();
+        cells[*place as usize] = Cell::of(output.get(number).copied());
     }
 }
 

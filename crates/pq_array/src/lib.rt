@@ -3,6 +3,7 @@
 #![tactic(auto)]
 
 mod array;
+mod cell;
 mod cells;
 mod laws;
 #[cfg(test)]

@@ -2,15 +2,15 @@ ghost use Rattle.std.specs.Prelude.{◌≡◌, ℕ, ◌+◌, ◌*◌, ◌/◌, �
 ghost use Rattle.pq_array.specs.Cells.{IsLive};
 ghost use Rattle.pq_array.specs.Counts.{HalvesTo, IsLowered};
 ghost use Rattle.pq_array.specs.Tree.{IsTreeOf};
-ghost use Rattle.std.specs.Int.{IsNextPowerOfTwo};
+ghost use Rattle.std.specs.Int.{IsNextPowerOfTwo, IsPowerOfTwo};
 
-use pq_gate::Gate;
+use crate::cell::Cell;
 use pq_limits::MAX_GATES;
 use pq_list::OutOfMemory;
 use std::alloc::Global;
 
 /// The words of the tree over these cells.
-pub fn tree_over(alloc: Global, cells: &[Option<Gate>]) -> Result<Vec<u64>, OutOfMemory>
+pub fn tree_over(alloc: Global, cells: &[Cell]) -> Result<Vec<u64>, OutOfMemory>
     requires { length cells.now ≤ MAX_GATES }
     ensures tree { IfOk result (λ words. IsTreeOf cells.now words.items) }
     ensures unused { IfOk result (λ words. slice_index words.items 0 ≡ 0) }
@@ -21,8 +21,22 @@ pub fn tree_over(alloc: Global, cells: &[Option<Gate>]) -> Result<Vec<u64>, OutO
     Ok(words)
 }
 
+/// Makes the words those of the tree over these cells, where they were those of a tree over no fewer. It takes no memory.
+pub fn count_again(words: &mut Vec<u64>, cells: &[Cell])
+    requires fewer { length cells.now ≤ length words.old.items / 2 }
+    requires power { IsPowerOfTwo (length words.old.items / 2) }
+    requires pairs { length words.old.items ≡ 2 * (length words.old.items / 2) }
+    requires unused { slice_index words.old.items 0 ≡ 0 }
+    ensures tree { IsTreeOf cells.now words.new.items }
+    ensures unused { slice_index words.new.items 0 ≡ 0 }
+{
+    let width = cells.len().next_power_of_two();
+    words.truncate(2 * width);
+    count_up(words, cells);
+}
+
 /// Counts the live cells below each node, from the last leaf to the root.
-fn count_up(words: &mut [u64], cells: &[Option<Gate>])
+fn count_up(words: &mut [u64], cells: &[Cell])
     requires leaves { IsNextPowerOfTwo (length cells.now) (length words.old / 2) }
     requires pairs { length words.old ≡ 2 * (length words.old / 2) }
     requires unused { slice_index words.old 0 ≡ 0 }
@@ -40,13 +54,13 @@ fn count_up(words: &mut [u64], cells: &[Option<Gate>])
 }
 
 /// The word of the leaf of this place, which may be behind the cells.
-fn leaf_word(cells: &[Option<Gate>], place: usize) -> u64
+fn leaf_word(cells: &[Cell], place: usize) -> u64
     ensures live { IsLive cells.now place → result ≡ 1 }
     ensures not_live { (IsLive cells.now place → ⊥) → result ≡ 0 }
 {
     match cells.get(place) {
-        Some(Some(_)) => 1,
-        _ => 0,
+        Some(cell) => u64::from(cell.is_live()),
+        None => 0,
     }
 }
 

@@ -107,7 +107,7 @@ pub lowerings_whole : (plan : Plan) (node : ℕ) (ls : List Lowering) → AreWho
 lowerings_whole plan node ls whole = ap (λ (l : List Lowering). lowerings_of node l) whole ∙ lowerings_ways plan node (at_root ls)
 
 -- as many weights of 1 as items
-weigh_ones : (xs : List ℕ) → weigh (λ x. 1) xs ≡ length xs
+pub weigh_ones : (xs : List ℕ) → weigh (λ x. 1) xs ≡ length xs
 weigh_ones [] = refl
 weigh_ones (x ∷ xs) = omega (arith, weigh_ones xs)
 

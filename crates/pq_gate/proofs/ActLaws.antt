@@ -1,12 +1,12 @@
 use Rattle.std.proofs.Common.{◌≡◌, ℕ, zero, suc, ◌+◌, Bool, true, false, cond, List, [], ◌∷◌, ◌++◌, length, set, refl, ap, sym, ◌∙◌, arith}
 use Rattle.std.proofs.lemmas.List.{length-set}
 use Rattle.pq_gate.specs.declared.gate.Gate.{Gate}
-use Rattle.pq_gate.specs.declared.gate.Gate.TheVariants.{H, X, Phase, Cx}
 use Rattle.pq_gate.specs.declared.ring.Ring.{Ring}
 use Rattle.pq_gate.specs.Bits.{bit, same_bits}
-use Rattle.pq_gate.specs.Eighths.{eighths_of}
 use Rattle.pq_gate.specs.Ring.{nought, one, plus, turn, turned, rooted, turned_if}
 use Rattle.pq_gate.specs.Matrix.{through, Entry, h_count}
+use Rattle.pq_gate.proofs.GateFacts.{form_of, gate_facts}
+use Rattle.pq_gate.proofs.GateForms.{Form, turns, flips, mixes, by_form, all_on}
 use Rattle.pq_gate.proofs.RingLaws.{plus_swap, turned-plus, turned-turn, rooted-plus, rooted-turn}
 
 -- a map of the ring that keeps sums and ω, and so all of the ring's multiples
@@ -32,41 +32,56 @@ pub turned_if-plus : (p : Bool) (k : ℕ) (r s : Ring) → turned_if p k (plus r
 turned_if-plus true k r s = turned-plus k r s
 turned_if-plus false k r s = refl
 
--- a gate keeps linear maps
-pub through-linear : {m : Ring → Ring} → IsLinear m → (g : Gate) (f : List Bool → Ring) (x : List Bool) →
-    through g (λ z. m (f z)) x ≡ m (through g f x)
-through-linear {m} linear (H w) f x =
+form-linear : {m : Ring → Ring} → IsLinear m → (a : Form) (f : List Bool → Ring) (x : List Bool) →
+    by_form a (λ z. m (f z)) x ≡ m (by_form a f x)
+form-linear linear (turns ws k) f x = sym (linear-turned_if linear (all_on ws x) k (f x))
+form-linear linear (flips w ws) f x = refl
+form-linear {m} linear (mixes w) f x =
     let low : Ring = f (set x w false) in
     let high : Ring = f (set x w true) in
     sym (linear.sums low (turned_if (bit x w) 4 high) ∙ ap (plus (m low)) (linear-turned_if linear (bit x w) 4 high))
-through-linear linear (X w) f x = refl
-through-linear linear (Phase k w) f x = sym (linear-turned_if linear (bit x w) (eighths_of k) (f x))
-through-linear linear (Cx c t) f x = refl
 
--- a gate keeps sums
-pub through-plus : (g : Gate) (f h : List Bool → Ring) (x : List Bool) →
-    through g (λ z. plus (f z) (h z)) x ≡ plus (through g f x) (through g h x)
-through-plus (H w) f h x =
+-- a gate keeps linear maps
+pub through-linear : {m : Ring → Ring} → IsLinear m → (g : Gate) (f : List Bool → Ring) (x : List Bool) →
+    through g (λ z. m (f z)) x ≡ m (through g f x)
+through-linear {m} linear g f x =
+    let acts : through g ≡ by_form (form_of g) = (gate_facts g).acts in
+    (λ i. acts i (λ z. m (f z)) x) ∙ form-linear linear (form_of g) f x ∙ (λ i. m (sym acts i f x))
+
+form-plus : (a : Form) (f h : List Bool → Ring) (x : List Bool) →
+    by_form a (λ z. plus (f z) (h z)) x ≡ plus (by_form a f x) (by_form a h x)
+form-plus (turns ws k) f h x = turned_if-plus (all_on ws x) k (f x) (h x)
+form-plus (flips w ws) f h x = refl
+form-plus (mixes w) f h x =
     let f0 : Ring = f (set x w false) in
     let f1 : Ring = f (set x w true) in
     let h0 : Ring = h (set x w false) in
     let h1 : Ring = h (set x w true) in
     ap (plus (plus f0 h0)) (turned_if-plus (bit x w) 4 f1 h1) ∙
     plus_swap f0 h0 (turned_if (bit x w) 4 f1) (turned_if (bit x w) 4 h1)
-through-plus (X w) f h x = refl
-through-plus (Phase k w) f h x = turned_if-plus (bit x w) (eighths_of k) (f x) (h x)
-through-plus (Cx c t) f h x = refl
+
+-- a gate keeps sums
+pub through-plus : (g : Gate) (f h : List Bool → Ring) (x : List Bool) →
+    through g (λ z. plus (f z) (h z)) x ≡ plus (through g f x) (through g h x)
+through-plus g f h x =
+    let acts : through g ≡ by_form (form_of g) = (gate_facts g).acts in
+    (λ i. acts i (λ z. plus (f z) (h z)) x) ∙ form-plus (form_of g) f h x ∙ (λ i. plus (sym acts i f x) (sym acts i h x))
+
+form_reads : (n : ℕ) (a : Form) (f h : List Bool → Ring) → ((z : List Bool) → length z ≡ n → f z ≡ h z) →
+    (x : List Bool) → length x ≡ n → by_form a f x ≡ by_form a h x
+form_reads n (turns ws k) f h agree x is = ap (turned_if (all_on ws x) k) (agree x is)
+form_reads n (flips w ws) f h agree x is = agree _ (length-set x w _ ∙ is)
+form_reads n (mixes w) f h agree x is =
+    let low : f (set x w false) ≡ h (set x w false) = agree _ (length-set x w false ∙ is) in
+    let high : f (set x w true) ≡ h (set x w true) = agree _ (length-set x w true ∙ is) in
+    λ i. plus (low i) (turned_if (bit x w) 4 (high i))
 
 -- a gate leads lists of n bits to lists of n bits
 pub through_reads : (n : ℕ) (g : Gate) (f h : List Bool → Ring) → ((z : List Bool) → length z ≡ n → f z ≡ h z) →
     (x : List Bool) → length x ≡ n → through g f x ≡ through g h x
-through_reads n (H w) f h agree x is =
-    let low : f (set x w false) ≡ h (set x w false) = agree _ (length-set x w false ∙ is) in
-    let high : f (set x w true) ≡ h (set x w true) = agree _ (length-set x w true ∙ is) in
-    λ i. plus (low i) (turned_if (bit x w) 4 (high i))
-through_reads n (X w) f h agree x is = agree _ (length-set x w _ ∙ is)
-through_reads n (Phase k w) f h agree x is = ap (turned_if (bit x w) (eighths_of k)) (agree x is)
-through_reads n (Cx c t) f h agree x is = agree _ (length-set x t _ ∙ is)
+through_reads n g f h agree x is =
+    let acts : through g ≡ by_form (form_of g) = (gate_facts g).acts in
+    (λ i. acts i f x) ∙ form_reads n (form_of g) f h agree x is ∙ (λ i. sym acts i h x)
 
 -- what the circuit gives from each basis state on, where f is what follows it
 abbrev pub Act : List Gate → (List Bool → Ring) → List Bool → Ring

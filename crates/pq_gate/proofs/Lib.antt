@@ -4,6 +4,8 @@ pub mod CircuitLaws
 pub mod EntryLaws
 pub mod ExchangeLaws
 pub mod FormLaws
+pub mod GateFacts
+pub mod GateForms
 pub mod InverseLaws
 pub mod KindLaws
 pub mod MoveLaws

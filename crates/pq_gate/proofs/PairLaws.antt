@@ -1,13 +1,12 @@
-use Rattle.std.proofs.Common.{◌≡◌, ◌≢◌, ℕ, ◌<◌, Bool, true, false, cond, List, [], ◌∷◌, length, set, refl, ap, sym, subst, ◌∙◌}
+use Rattle.std.proofs.Common.{◌≡◌, ℕ, ◌<◌, Bool, true, false, cond, List, length, set, refl, ap, sym, subst, ◌∙◌}
 use Rattle.std.proofs.lemmas.List.{set-set, get_or-set_same}
-use Rattle.pq_gate.specs.declared.gate.Gate.TheVariants.{H, X, Cx}
+use Rattle.pq_gate.specs.declared.gate.Gate.TheVariants.{H}
 use Rattle.pq_gate.specs.declared.ring.Ring.{Ring}
-use Rattle.pq_gate.specs.Bits.{bit, toggled}
+use Rattle.pq_gate.specs.Bits.{bit}
 use Rattle.pq_gate.specs.Ring.{plus, turned, turned_if, root}
-use Rattle.pq_gate.specs.Matrix.{through, Same}
-use Rattle.pq_gate.proofs.BitLaws.{toggled-toggled, bit-toggled_other, set-bit}
+use Rattle.pq_gate.specs.Matrix.{through}
+use Rattle.pq_gate.proofs.BitLaws.{set-bit}
 use Rattle.pq_gate.proofs.RingLaws.{plus_swap, plus-nought, nought-plus, turned-plus, turned-8, plus-turned_4, root-root}
-use Rattle.pq_gate.proofs.SameLaws.{Same-from_acts}
 
 -- what H gives at a state with the wire's value put in
 H-set : (w : ℕ) (f : List Bool → Ring) (x : List Bool) (p : Bool) → w < length x →
@@ -43,27 +42,6 @@ H_twice w f x inside =
     λ i. plus (own i) (own i)) ∙
     sym (root-root (f x))
 
--- X twice is nothing
-pub X_twice : (w : ℕ) (f : List Bool → Ring) (x : List Bool) → w < length x → through (X w) (through (X w) f) x ≡ f x
-X_twice w f x inside = ap f (toggled-toggled x w true inside)
-
--- CX twice is nothing
-pub Cx_twice : (c t : ℕ) (f : List Bool → Ring) (x : List Bool) → t < length x → c ≢ t → through (Cx c t) (through (Cx c t) f) x ≡ f x
-Cx_twice c t f x inside differ =
-    ap (λ (p : Bool). f (toggled (toggled x t (bit x c)) t p)) (bit-toggled_other x t c (bit x c) differ) ∙
-    ap f (toggled-toggled x t (bit x c) inside)
-
 -- the wire is a wire of each state
-within : {n w : ℕ} → w < n → (x : List Bool) → length x ≡ n → w < length x
+pub within : {n w : ℕ} → w < n → (x : List Bool) → length x ≡ n → w < length x
 within {n} {w} below x is = subst (λ (k : ℕ). w < k) (sym is) below
-
-pub H_pair : (n w : ℕ) → w < n → Same n (H w ∷ H w ∷ []) [] 0
-H_pair n w below = Same-from_acts (below, (below, tt)) tt (λ f x is. H_twice w f x (within below x is))
-
-pub X_pair : (n w : ℕ) → w < n → Same n (X w ∷ X w ∷ []) [] 0
-X_pair n w below = Same-from_acts (below, (below, tt)) tt (λ f x is. X_twice w f x (within below x is))
-
-pub Cx_pair : (n c t : ℕ) → c < n → t < n → c ≢ t → Same n (Cx c t ∷ Cx c t ∷ []) [] 0
-Cx_pair n c t control target differ =
-    Same-from_acts ((control, target, differ), ((control, target, differ), tt)) tt
-    (λ f x is. Cx_twice c t f x (within target x is) differ)

@@ -1,4 +1,4 @@
-use Rattle.std.proofs.Common.{◌≡◌, ℕ, zero, suc, ◌+◌, ◌*◌, ◌/◌, ◌%◌, refl, ap, sym, ◌∙◌, arith, zero-add, suc-add}
+use Rattle.std.proofs.Common.{◌≡◌, ℕ, zero, suc, ◌+◌, ◌-◌, ◌*◌, ◌/◌, ◌%◌, refl, ap, sym, ◌∙◌, arith, zero-add, suc-add}
 use Rattle.std.specs.Prelude.{◌+ℤ◌, ◌-ℤ◌}
 use Rattle.std.proofs.lemmas.Int.{ints}
 use Rattle.pq_gate.specs.declared.ring.Ring.{Ring}
@@ -123,3 +123,13 @@ pub turned-mod : (k : ℕ) (r : Ring) → turned (k % 8) r ≡ turned k r
 turned-mod k r =
     let whole : k ≡ 8 * (k / 8) + k % 8 = omega arith in
     sym (ap (λ (n : ℕ). turned n r) whole ∙ turned-add (8 * (k / 8)) (k % 8) r ∙ turned-times_8 (k / 8) (turned (k % 8) r))
+
+-- the phase that is left of a whole turn
+pub turned_back : (k : ℕ) (r : Ring) → turned ((8 - k % 8) % 8) (turned k r) ≡ r
+turned_back k r =
+    let whole : 8 - k % 8 + k % 8 ≡ 8 = omega arith in
+    turned-mod (8 - k % 8) (turned k r) ∙
+    ap (turned (8 - k % 8)) (sym (turned-mod k r)) ∙
+    sym (turned-add (8 - k % 8) (k % 8) r) ∙
+    ap (λ (j : ℕ). turned j r) whole ∙
+    turned-8 r

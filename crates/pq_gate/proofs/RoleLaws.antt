@@ -2,14 +2,16 @@
 use Rattle.std.proofs.Common.{◌≡◌, ℕ, Bool, true, false, cond, List, [], ◌∷◌, map, ◌⊎◌, inl, inr, ⊎_elim, refl, sym, ap, subst, ◌∙◌}
 use Rattle.std.specs.Prelude.{Option, Some, None, filter}
 use Rattle.pq_gate.specs.declared.gate.Gate.{Gate}
-use Rattle.pq_gate.specs.declared.gate.Gate.TheVariants.{H, X, Phase, Cx}
 use Rattle.pq_gate.specs.declared.ports.Port.{Port}
+use Rattle.pq_gate.specs.declared.ports.Ports.{Ports}
+use Rattle.pq_gate.specs.declared.ports.Ports.TheVariants.{One, Two}
 use Rattle.pq_gate.specs.declared.role.Axis.{Axis}
 use Rattle.pq_gate.specs.declared.role.Axis.TheVariants as axis
 use Rattle.pq_gate.specs.declared.role.Role.{Role}
-use Rattle.pq_gate.specs.Circuit.{IsOnWires}
+use Rattle.pq_gate.specs.Circuit.{AreOn, IsOnWires}
 use Rattle.pq_gate.specs.Commuting.{Touches, Along, AlongZ, AlongX, Commutes, wires_along}
-use Rattle.pq_gate.specs.Ports.{port, ports_of, IsAmong, Plays}
+use Rattle.pq_gate.specs.Ports.{port, ports_of, listed_ports, IsAmong, Plays}
+use Rattle.pq_gate.proofs.GateFacts.{gate_facts}
 use Rattle.pq_gate.proofs.WireLaws.{uses_listed, lists_used}
 use Rattle.pq_gate.specs.Role.{axis_of, is_axis, acts_along, HaveOneAxis}
 
@@ -126,15 +128,22 @@ plays_along along g w role is has =
 pub plays_along_of : (along : Axis) (g : Gate) (w : ℕ) → (role : Role) × Plays g w role × (axis_of role ≡ Some along) → Along along g w
 plays_along_of along g w is = plays_along along g w is.0 is.1 is.2
 
+one_of_ports : (n : ℕ) (ports : Ports) → AreOn n (map (λ p. p.wire) (listed_ports ports)) → (w : ℕ) (r s : Role) →
+    IsAmong (port w r) (listed_ports ports) → IsAmong (port w s) (listed_ports ports) → r ≡ s
+one_of_ports n (One only) on w r s left right = ap (λ (p : Port). p.role) (left ∙ sym right)
+one_of_ports n (Two first last) on w r s (inl left) (inl right) = ap (λ (p : Port). p.role) (left ∙ sym right)
+one_of_ports n (Two first last) on w r s (inr left) (inr right) = ap (λ (p : Port). p.role) (left ∙ sym right)
+one_of_ports n (Two first last) on w r s (inl left) (inr right) =
+    absurd (on.2 (sym (ap (λ (p : Port). p.wire) left) ∙ ap (λ (p : Port). p.wire) right))
+one_of_ports n (Two first last) on w r s (inr left) (inl right) =
+    absurd (on.2 (sym (ap (λ (p : Port). p.wire) right) ∙ ap (λ (p : Port). p.wire) left))
+
 -- on two different wires a gate has one role each
 pub one_role : (n : ℕ) (g : Gate) → IsOnWires n g → (w : ℕ) (r s : Role) → Plays g w r → Plays g w s → r ≡ s
-one_role n (H v) on w r s left right = ap (λ (p : Port). p.role) (left ∙ sym right)
-one_role n (X v) on w r s left right = ap (λ (p : Port). p.role) (left ∙ sym right)
-one_role n (Phase eighths v) on w r s left right = ap (λ (p : Port). p.role) (left ∙ sym right)
-one_role n (Cx c t) on w r s (inl left) (inl right) = ap (λ (p : Port). p.role) (left ∙ sym right)
-one_role n (Cx c t) on w r s (inr left) (inr right) = ap (λ (p : Port). p.role) (left ∙ sym right)
-one_role n (Cx c t) on w r s (inl left) (inr right) = absurd (on.2 (sym (ap (λ (p : Port). p.wire) left) ∙ ap (λ (p : Port). p.wire) right))
-one_role n (Cx c t) on w r s (inr left) (inl right) = absurd (on.2 (sym (ap (λ (p : Port). p.wire) right) ∙ ap (λ (p : Port). p.wire) left))
+one_role n g on w r s left right =
+    let facts = gate_facts g in
+    subst (λ (ports : List Port). AreOn n (map (λ p. p.wire) ports) → IsAmong (port w r) ports → IsAmong (port w s) ports → r ≡ s)
+    facts.listed (λ all one other. one_of_ports n facts.ports all w r s one other) on left right
 
 -- on each wire that the gates share their roles have one axis
 abbrev pub RolesAgree : Gate → Gate → Type 0

@@ -1,10 +1,10 @@
-use Rattle.std.proofs.Common.{◌≡◌, ℕ, ◌+◌, ◌-◌, ◌%◌, Bool, List, ◌++◌, length, refl, ap, sym, ◌∙◌, arith}
+use Rattle.std.proofs.Common.{◌≡◌, ℕ, ◌+◌, ◌-◌, ◌%◌, Bool, List, ◌++◌, length, refl, ap, sym, ◌∙◌}
 use Rattle.pq_gate.specs.declared.gate.Gate.{Gate}
 use Rattle.pq_gate.specs.declared.ring.Ring.{Ring}
 use Rattle.pq_gate.specs.Circuit.{IsCircuit}
 use Rattle.pq_gate.specs.Ring.{turned, rooted}
 use Rattle.pq_gate.specs.Matrix.{Entry, h_count, Same}
-use Rattle.pq_gate.proofs.RingLaws.{turned-8, turned-add, turned-mod, rooted-add, rooted-turned, rooted_comm, rooted_cancel}
+use Rattle.pq_gate.proofs.RingLaws.{turned-add, turned-mod, turned_back, rooted-add, rooted-turned, rooted_comm, rooted_cancel}
 use Rattle.pq_gate.proofs.ActLaws.{IsLinear-turned, IsLinear-rooted, Act, Act-append, Act-linear, Act_reads, Entry-point, point, h_count-append}
 use Rattle.pq_gate.proofs.FormLaws.{IsForm-Act, IsForm-linear, forms_agree}
 use Rattle.pq_gate.proofs.CircuitLaws.{IsCircuit-append}
@@ -39,16 +39,6 @@ Same-from_acts {n} {k} {c} {d} left right acts = record {
 
 pub same_reflexive : (n : ℕ) (c : List Gate) → IsCircuit n c → Same n c c 0
 same_reflexive n c is = record { left = is; right = is; entries = λ x y x_is y_is. refl }
-
--- the phase that is left of a whole turn
-turned_back : (k : ℕ) (r : Ring) → turned ((8 - k % 8) % 8) (turned k r) ≡ r
-turned_back k r =
-    let whole : 8 - k % 8 + k % 8 ≡ 8 = omega arith in
-    turned-mod (8 - k % 8) (turned k r) ∙
-    ap (turned (8 - k % 8)) (sym (turned-mod k r)) ∙
-    sym (turned-add (8 - k % 8) (k % 8) r) ∙
-    ap (λ (j : ℕ). turned j r) whole ∙
-    turned-8 r
 
 pub same_symmetric : (n k : ℕ) (c d : List Gate) → Same n c d k → Same n d c ((8 - k % 8) % 8)
 same_symmetric n k c d same = record {

@@ -1,7 +1,7 @@
 use Rattle.pq_gate.specs.declared.gate.Eighths.{Eighths}
 use Rattle.pq_gate.specs.declared.gate.Eighths.TheVariants.{T, S, Z, Sdg, Tdg}
 use Rattle.pq_gate.specs.declared.gate.Gate.{Gate}
-use Rattle.pq_gate.specs.declared.gate.Gate.TheVariants.{H, X, Phase, Cx}
+use Rattle.pq_gate.specs.declared.gate.Gate.TheVariants.{Phase}
 
 -- the eighths that complete a whole turn
 abbrev pub rest_of : Eighths → Eighths
@@ -11,9 +11,7 @@ rest_of Z = Z
 rest_of Sdg = S
 rest_of Tdg = T
 
--- the gate that undoes the gate
+-- the gate that undoes the gate: all but phases undo themselves
 abbrev pub inverse_of : Gate → Gate
-inverse_of (H wire) = H wire
-inverse_of (X wire) = X wire
 inverse_of (Phase eighths wire) = Phase (rest_of eighths) wire
-inverse_of (Cx control target) = Cx control target
+inverse_of gate = gate

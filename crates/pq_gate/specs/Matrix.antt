@@ -22,12 +22,10 @@ abbrev pub Entry : List Gate → List Bool → List Bool → Ring
 Entry [] x y = cond (same_bits x y) one nought
 Entry (gate ∷ rest) x y = through gate (λ z. Entry rest z y) x
 
--- how many factors √2 a gate's part of the entry has too many
+-- how many factors √2 a gate's part of the entry has too many: H alone has one
 abbrev pub roots_of : Gate → ℕ
 roots_of (H wire) = 1
-roots_of (X wire) = 0
-roots_of (Phase eighths wire) = 0
-roots_of (Cx control target) = 0
+roots_of _ = 0
 
 -- the number of H gates
 abbrev pub h_count : List Gate → ℕ

@@ -5,8 +5,8 @@ ghost use Rattle.pq_gate.specs.Inverse.{rest_of, inverse_of};
 use crate::gate::{Eighths, Gate};
 use crate::role::Axis;
 
-/// The gate that undoes the gate: H, X, Z and CX are their own inverses, S and the inverse of S, T
-/// and the inverse of T are exchanged.
+/// The gate that undoes the gate: S and the inverse of S, T and the inverse of T are exchanged, and
+/// all others are their own inverses.
 pub fn inverse(gate: Gate) -> Gate
     ensures { result ≡ inverse_of gate }
 {
@@ -15,7 +15,7 @@ pub fn inverse(gate: Gate) -> Gate
             eighths: rest(eighths),
             wire,
         },
-        Gate::H { .. } | Gate::X { .. } | Gate::Cx { .. } => gate,
+        _ => gate,
     }
 }
 

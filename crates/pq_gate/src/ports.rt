@@ -179,7 +179,7 @@ impl Gate {
     {
         match self {
             Gate::H { .. } => 1,
-            Gate::X { .. } | Gate::Phase { .. } | Gate::Cx { .. } => 0,
+            _ => 0,
         }
     }
 }

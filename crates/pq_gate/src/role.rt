@@ -50,6 +50,24 @@ impl Role {
         }
     }
 
+    /// The role with this number.
+    pub fn numbered(number: u8) -> Role
+        requires { number < ROLES }
+        ensures { role_number result ≡ number }
+    {
+        match number {
+            0 => Role::H,
+            1 => Role::X,
+            2 => Role::Control,
+            3 => Role::Target,
+            4 => Role::Phase(Eighths::T),
+            5 => Role::Phase(Eighths::S),
+            6 => Role::Phase(Eighths::Z),
+            7 => Role::Phase(Eighths::Sdg),
+            _ => Role::Phase(Eighths::Tdg),
+        }
+    }
+
     /// The axis: Z of a phase and of a control, X of X and of a target, and none of H.
     pub fn axis(self) -> Option<Axis>
         ensures { result ≡ axis_of self }

@@ -12,7 +12,7 @@ use Rattle.pq_lex.specs.Lex.{Place, placed, lex, Position, moved, next_line, tok
 use Rattle.pq_lex.specs.Added.{extended, after_blank, first_token, after_token, ChangesLater}
 use Rattle.pq_lex.proofs.Lexing.{skip-newline, skip-blank, lex-token}
 
-position_more : (p : ℕ → Bool) (text more : List ℕ) → position_or_len p text < length text → position_or_len p (text ++ more) ≡ position_or_len p text
+pub position_more : (p : ℕ → Bool) (text more : List ℕ) → position_or_len p text < length text → position_or_len p (text ++ more) ≡ position_or_len p text
 position_more p [] more h = absurd (omega arith)
 position_more p (x ∷ xs) more h =
     elim (not (p x)) as (λ b. cond b (1 + position_or_len p xs) 0 < length (x ∷ xs) → cond b (1 + position_or_len p (xs ++ more)) 0 ≡ cond b (1 + position_or_len p xs) 0) [
@@ -20,7 +20,7 @@ position_more p (x ∷ xs) more h =
       | false ↦ λ lt. refl
     ] h
 
-fraction_more : (text more : List ℕ) → fraction_length text + 1 ≤ length text → fraction_length (text ++ more) ≡ fraction_length text
+pub fraction_more : (text more : List ℕ) → fraction_length text + 1 ≤ length text → fraction_length (text ++ more) ≡ fraction_length text
 fraction_more [] more h = absurd (omega arith)
 fraction_more (b ∷ rest) more h =
     elim (eqb b 46) as (λ t. cond t (1 + position_or_len is_no_digit rest) 0 + 1 ≤ length (b ∷ rest) → cond t (1 + position_or_len is_no_digit (rest ++ more)) 0 ≡ cond t (1 + position_or_len is_no_digit rest) 0) [
@@ -106,7 +106,7 @@ number_more text more followed =
       | false ↦ λ l. ap (λ n. fronted Number (d + n)) (ap exponent_length cut ∙ exponent_more (drop d text) more (omega arith))
     ] followed.1
 
-quote_more : (l more : List ℕ) → is_quote l ≡ true → is_quote (l ++ more) ≡ is_quote l
+pub quote_more : (l more : List ℕ) → is_quote l ≡ true → is_quote (l ++ more) ≡ is_quote l
 quote_more [] more h = absurd (false≢true h)
 quote_more (b ∷ l) more h = refl
 
@@ -128,7 +128,7 @@ quoted_more rest more len followed =
       | false ↦ λ open_end l. absurd (false≢true (sym l.0))
     ] refl followed
 
-mark_more : (b : ℕ) (rest more : List ℕ) → 1 ≤ length rest → mark_front b (rest ++ more) ≡ mark_front b rest
+pub mark_more : (b : ℕ) (rest more : List ℕ) → 1 ≤ length rest → mark_front b (rest ++ more) ≡ mark_front b rest
 mark_more b [] more h = absurd (omega arith)
 mark_more b (c ∷ rest) more h = refl
 
@@ -148,7 +148,7 @@ front_more b rest more followed =
     (λ f. mark_more b rest more (let l : (mark_front b rest).count + 3 ≤ length (b ∷ rest) = f.1 in omega arith))))
     followed
 
-blank_more : (text more : List ℕ) → 1 ≤ blank_length text → blank_length text < length text → blank_length (text ++ more) ≡ blank_length text
+pub blank_more : (text more : List ℕ) → 1 ≤ blank_length text → blank_length text < length text → blank_length (text ++ more) ≡ blank_length text
 blank_more [] more some lt = absurd (omega arith)
 blank_more (b ∷ []) more some lt =
     elim (is_separator b) as (λ t. 1 ≤ cond t 1 0 → cond t 1 0 < length (b ∷ []) → blank_length (b ∷ more) ≡ cond t 1 0) [
@@ -165,7 +165,7 @@ blank_more (b ∷ c ∷ rest) more some lt =
       ] l
     ] lt
 
-blank_none : (text more : List ℕ) → blank_length text ≡ 0 → 2 ≤ length text → blank_length (text ++ more) ≡ 0
+pub blank_none : (text more : List ℕ) → blank_length text ≡ 0 → 2 ≤ length text → blank_length (text ++ more) ≡ 0
 blank_none [] more none two = absurd (omega arith)
 blank_none (b ∷ []) more none two = absurd (omega arith)
 blank_none (b ∷ c ∷ rest) more none two =
@@ -184,7 +184,7 @@ skipped : (line column : ℕ) (text : List ℕ) (b : Bool) → eqb (get_or text 
 skipped line column text true is some within = skip-newline line column text (eqb-true _ _ is)
 skipped line column text false is some within = skip-blank (blank_length text) line column text (eqb-false _ _ is) some refl within
 
-blank_law : (line column : ℕ) (text more : List ℕ) → 1 ≤ blank_length text → blank_length text < length text
+pub blank_law : (line column : ℕ) (text more : List ℕ) → 1 ≤ blank_length text → blank_length text < length text
     → (let p : Position = record { rest = text; line = line; column = column } in (tokens p ≡ tokens (after_blank p)) × (tokens (extended p more) ≡ tokens (extended (after_blank p) more)))
 blank_law line column [] more some lt = absurd (omega arith)
 blank_law line column (b ∷ rest) more some lt =

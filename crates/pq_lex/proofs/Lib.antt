@@ -4,3 +4,4 @@ pub mod Forms
 pub mod Added
 pub mod Direct
 pub mod Values
+pub mod Ending

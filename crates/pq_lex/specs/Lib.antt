@@ -2,3 +2,4 @@ pub mod Token
 pub mod Front
 pub mod Lex
 pub mod Added
+pub mod Ends

@@ -1,5 +1,7 @@
 ghost use Rattle.std.specs.Prelude.{◌≡◌, ◌≤◌, length, List, ℕ};
 ghost use Rattle.pq_lex.specs.Added.{ChangesLater};
+ghost use Rattle.pq_lex.specs.Ends.{IsEnded, EndsForGood};
+ghost use Rattle.pq_lex.specs.declared.ends.Mode.TheVariants.{Code};
 ghost use Rattle.pq_lex.specs.Lex.{Position, tokens};
 ghost use Rattle.pq_lex.specs.declared.token.Form.{Form};
 ghost use Rattle.pq_lex.specs.Token.{number_of};
@@ -18,4 +20,10 @@ pub fn texts_have_tokens()
 /// a byte follows it, and the token at the front, if it isn't malformed and three bytes follow it, stay.
 pub fn added_bytes_change_what_follows()
     ensures { (p : Position) (more : List ℕ) → ChangesLater p more }
+{}
+
+/// What follows a text that ends with a `;` among its tokens adds tokens, from where the text ends, and changes
+/// none.
+pub fn texts_end_for_good()
+    ensures { (p : Position) → 1 ≤ p.column → IsEnded Code p.rest → EndsForGood p }
 {}

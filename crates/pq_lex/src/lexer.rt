@@ -1,10 +1,13 @@
-ghost use Rattle.std.specs.Prelude.{◌≡◌, true, false, ◌==◌, ℕ, ◌+◌, ◌<◌, ◌≤◌, [], ◌∷◌, length, take, drop, min, IfSome, IfNone};
+ghost use Rattle.std.specs.Prelude.{◌≡◌, ◌⊎◌, true, false, ◌==◌, ℕ, ◌+◌, ◌^◌, ◌<◌, ◌≤◌, List, [], ◌∷◌, length, take, drop, min, IfSome, IfNone};
 ghost use Rattle.std.specs.List.{list_all};
 ghost use Rattle.std.specs.Char.{is_ascii_digit};
 ghost use Rattle.std.specs.Str.Parse.{digits_value};
 ghost use Rattle.pq_lex.specs.declared.token.Form.TheVariants.{Word, Number, Missing};
 ghost use Rattle.pq_lex.specs.Token.{seen, is_last, number_of};
 ghost use Rattle.pq_lex.specs.Front.{blank_length, fronted, front, mark_byte};
+ghost use Rattle.pq_lex.specs.Added.{extended, after_blank};
+ghost use Rattle.pq_lex.specs.Ends.{mode_after};
+ghost use Rattle.pq_lex.specs.declared.ends.Mode.TheVariants.{Code};
 ghost use Rattle.pq_lex.specs.Lex.{Position, tokens, moved, next_line, tokens_of, from_token, first_form};
 
 use crate::front::{GREAT, blank_front, byte_of, integer_front, is_next, token_front, word_front};
@@ -45,6 +48,41 @@ impl<'t> Lexer<'t> {
         }
     }
 
+    /// A cursor at a place, where this text begins.
+    pub fn at(text: &'t [u8], line: u32, column: u32) -> Lexer<'t>
+        requires column { 1 ≤ column }
+        requires fits { line + (column + length text.now) < 2 ^ 32 }
+        ensures { result ≡ record { rest = text.entry.now; line = line; column = column } }
+    {
+        Lexer {
+            rest: text,
+            line,
+            column,
+        }
+    }
+
+    /// What is left of the text.
+    pub fn rest(&self) -> &'t [u8]
+        ensures { result.now ≡ self.now.rest }
+    {
+        self.rest
+    }
+
+    /// The line where that begins.
+    pub fn line(&self) -> u32
+        ensures { result ≡ self.now.line }
+    {
+        self.line
+    }
+
+    /// The column where that begins.
+    pub fn column(&self) -> u32
+        ensures column { result ≡ self.now.column }
+        ensures some { 1 ≤ result }
+    {
+        self.column
+    }
+
     // Goes over some bytes that hold no newline.
     #[inline(always)]
     fn advance(&mut self, count: usize)
@@ -76,6 +114,7 @@ impl<'t> Lexer<'t> {
         requires within { count ≤ length self.old.rest }
         ensures same { tokens self.new ≡ tokens self.old }
         ensures less { length self.new.rest < length self.old.rest }
+        ensures after { self.new ≡ after_blank self.old }
     {
         if self.rest[0] == b'\n' {
             self.begin_line();
@@ -96,6 +135,51 @@ impl<'t> Lexer<'t> {
                 return;
             }
             self.skip_one(count);
+        }
+    }
+
+    // Leaves the first two bytes of a comment that the text ends in.
+    fn cut_comment(&mut self)
+        requires comment { blank_length self.old.rest ≡ length self.old.rest }
+        requires long { 3 ≤ length self.old.rest }
+        ensures same { (more : List ℕ) → tokens (extended self.new more) ≡ tokens (extended self.old more) }
+        ensures mode { mode_after Code self.new.rest ≡ mode_after Code self.old.rest }
+        ensures place { self.new.line + (self.new.column + length self.new.rest) ≤ self.old.line + (self.old.column + length self.old.rest) }
+        ensures two { length self.new.rest ≡ 2 }
+    {
+        let rest = self.rest;
+        self.column += (rest.len() - 2) as u32;
+        self.rest = &rest[..2];
+    }
+
+    // Goes over what is skipped at the front and followed by a byte.
+    fn skip_followed(&mut self)
+        ensures same { (more : List ℕ) → tokens (extended self.new more) ≡ tokens (extended self.old more) }
+        ensures mode { mode_after Code self.new.rest ≡ mode_after Code self.old.rest }
+        ensures place { self.new.line + (self.new.column + length self.new.rest) ≤ self.old.line + (self.old.column + length self.old.rest) }
+        ensures front { (blank_length self.new.rest ≡ 0) ⊎ (blank_length self.new.rest ≡ length self.new.rest) }
+    {
+        'blanks: loop {
+            let count = blank_front(self.rest);
+            if count == 0 || count == self.rest.len() {
+                return;
+            }
+            self.skip_one(count);
+        }
+    }
+
+    /// Goes over what is skipped before the next token, as far as that is so whatever bytes are added to the text.
+    /// Of a comment that the text ends in, the first two bytes are left, and of blanks there the last.
+    pub fn settle(&mut self)
+        ensures same { (more : List ℕ) → tokens (extended self.new more) ≡ tokens (extended self.old more) }
+        ensures mode { mode_after Code self.new.rest ≡ mode_after Code self.old.rest }
+        ensures place { self.new.line + (self.new.column + length self.new.rest) ≤ self.old.line + (self.old.column + length self.old.rest) }
+        ensures front { (blank_length self.new.rest ≡ 0) ⊎ (length self.new.rest ≤ 2) }
+    {
+        self.skip_followed();
+        let left = self.rest.len();
+        if 2 < left && blank_front(self.rest) == left {
+            self.cut_comment();
         }
     }
 

@@ -3,12 +3,16 @@
 //! them and are skipped.
 #![tactic(auto)]
 
+mod ends;
 mod front;
 mod laws;
 mod lexer;
 mod token;
 
+pub use ends::{Ended, Mode, last_end};
 pub use front::GREAT;
-pub use laws::{added_bytes_change_what_follows, forms_have_numbers, texts_have_tokens};
+pub use laws::{
+    added_bytes_change_what_follows, forms_have_numbers, texts_end_for_good, texts_have_tokens,
+};
 pub use lexer::Lexer;
 pub use token::{Form, Token};

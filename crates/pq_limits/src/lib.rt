@@ -2,6 +2,9 @@
 //! these numbers.
 #![tactic(auto)]
 
+ghost use Rattle.std.specs.Prelude.{◌≡◌, ◌*◌};
+ghost use Rattle.pq_limits.specs.Limits.{IsOmega, AreWorkers};
+
 /// The least Omega, in gates.
 pub const MIN_OMEGA: u32 = 2;
 
@@ -64,3 +67,11 @@ pub const MAX_SEGMENT: u32 = 2 * MAX_OMEGA;
 
 /// The most jobs of a board.
 pub const MAX_JOBS: u64 = 1_048_576;
+
+/// A law: what stands where no number is given lies within its limits, and a segment has room for a window on either
+/// side of a place.
+pub fn defaults_lie_within()
+    ensures omega { IsOmega DEFAULT_OMEGA }
+    ensures workers { AreWorkers DEFAULT_WORKERS }
+    ensures segment { MAX_SEGMENT ≡ 2 * MAX_OMEGA }
+{}

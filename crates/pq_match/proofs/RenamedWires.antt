@@ -1,27 +1,16 @@
 -- The wires of a gate, and those of the same gate on other wires.
-use Rattle.std.proofs.Common.{◌≡◌, ℕ, ◌<◌, List, [], ◌∷◌, map, get_or, inl, inr, ⊎_elim, sym, ap, subst, ◌∙◌}
+use Rattle.std.proofs.Common.{◌≡◌, ℕ, ◌<◌, List, [], ◌∷◌, map, get_or, inl, inr, sym, ap, subst, ◌∙◌}
 use Rattle.pq_gate.specs.declared.gate.Gate.{Gate}
-use Rattle.pq_gate.specs.declared.gate.Gate.TheVariants.{H, X, Phase, Cx}
 use Rattle.pq_gate.specs.Circuit.{IsOnWires}
 use Rattle.pq_gate.specs.Commuting.{Touches}
-use Rattle.pq_gate.specs.Ports.{wires_of, first_wire, last_wire, IsAmong}
-use Rattle.pq_gate.proofs.WireLaws.{lists_used, uses_listed, touched}
+use Rattle.pq_gate.specs.Ports.{wires_of, IsAmong}
+use Rattle.pq_gate.proofs.WireLaws.{lists_used, uses_listed, wire_below}
 use Rattle.pq_rules.specs.Renaming.{renamed}
 use Rattle.pq_rules.proofs.LiftLaws.{wires_of-renamed}
 
 -- the wires of a gate on n wires are below n
-wires_below : (n : ℕ) (g : Gate) → IsOnWires n g → (first_wire g < n) × (last_wire g < n)
-wires_below n (H w) on = (on, on)
-wires_below n (X w) on = (on, on)
-wires_below n (Phase eighths w) on = (on, on)
-wires_below n (Cx c t) on = (on.0, on.1)
-
 pub touched_below_count : (n : ℕ) (g : Gate) (w : ℕ) → IsOnWires n g → Touches g w → w < n
-touched_below_count n g w on touches =
-    ⊎_elim
-    (λ (is : w ≡ first_wire g). subst (λ (u : ℕ). u < n) (sym is) (wires_below n g on).0)
-    (λ (is : w ≡ last_wire g). subst (λ (u : ℕ). u < n) (sym is) (wires_below n g on).1)
-    (touched g w touches)
+touched_below_count n g w on touches = wire_below n g on w touches
 
 among_map : (f : ℕ → ℕ) (w : ℕ) (wires : List ℕ) → IsAmong w wires → IsAmong (f w) (map f wires)
 among_map f w [] is = absurd is

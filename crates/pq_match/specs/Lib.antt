@@ -14,5 +14,7 @@ pub mod Rewrite
 pub mod Found
 pub mod Seek
 pub mod Work
+pub mod Ties
 pub mod Segment
 pub mod Search
+pub mod Within

@@ -107,14 +107,19 @@ pub record AreLinkedSlots (slots : List Gate) (ahead : List Sides) : Type 0 wher
   pub next : AreNext slots ahead
 
 -- Each wire of the pattern's first `count` gates has the wire that it is led to, which isn't that of free slots, and the
--- least place from `from` on whose gate uses that. What stands before the end is that of such a wire.
+-- least place from `from` on whose gate uses that. Whatever of the three stands before the end does so on its wire.
 pub record AreCursors (gates pattern : List Gate) (places : List ℕ) (count from : ℕ) (cursors : Cursors) : Type 0 where
   pub taken : (s : ℕ) → s < count → IsTaken (gate_at gates (slice_index places s))
   pub leads : (s : ℕ) (one : Bool) → s < count →
       slice_index cursors.wires (wire_of one (gate_at pattern s)) ≡ wire_of one (gate_at gates (slice_index places s))
   pub next : (s : ℕ) (one : Bool) → s < count →
       IsNextOn gates (wire_of one (gate_at gates (slice_index places s))) from (slice_index cursors.next (wire_of one (gate_at pattern s)))
-  pub used : (v : ℕ) → v < 3 → slice_index cursors.next v < length gates → (s : ℕ) × (one : Bool) × (s < count) × (wire_of one (gate_at pattern s) ≡ v)
+  pub standing : (v : ℕ) → v < 3 → slice_index cursors.next v < length gates →
+      (slice_index cursors.wires v ≢ no_wire) × IsNextOn gates (slice_index cursors.wires v) from (slice_index cursors.next v)
+
+-- the wires of those that stand before the end are marked
+pub record AreMarked (gates : List Gate) (looked : Looked) (cursors : Cursors) : Type 0 where
+  pub marked : (v : ℕ) → v < 3 → slice_index cursors.next v < length gates → HasBit looked.mask (slice_index cursors.wires v)
 
 -- none of the three stands before this place
 abbrev pub AreAhead : ℕ → Cursors → Type 0

@@ -1,6 +1,6 @@
 //! What a search looked at.
 
-ghost use Rattle.std.specs.Prelude.{◌≡◌, ◌+◌, ◌<◌, Bool, true};
+ghost use Rattle.std.specs.Prelude.{◌≡◌, ◌+◌, ◌<◌, Bool};
 ghost use Rattle.pq_links.specs.Links.{far};
 ghost use Rattle.pq_links.specs.Wires.{wire_of};
 ghost use Rattle.pq_match.specs.Seek.{HasBit, MarksAll, LooksAtMore};
@@ -67,15 +67,12 @@ impl Looked {
         self.mark(gate.last_wire());
     }
 
-    /// Marks all wires where the next gate is free to stand on any.
+    /// Marks all wires.
     #[tactic(auto, using(crate::proofs::Marking::ones_mark_all, crate::proofs::Marking::looks_at_all))]
-    pub fn widen(&mut self, free: bool)
+    pub fn mark_all(&mut self)
         ensures more { LooksAtMore self.old self.new }
-        ensures all { free ≡ true → MarksAll self.new.mask }
-        ensures reach { self.new.reach ≡ self.old.reach }
+        ensures all { MarksAll self.new.mask }
     {
-        if free {
-            self.mask = u64::MAX;
-        }
+        self.mask = u64::MAX;
     }
 }

@@ -1,5 +1,6 @@
 pub mod Gathering
-pub mod Sharing
-pub mod Crewing
+pub mod InOrder
 pub mod Working
 pub mod Surveyed
+pub mod Removing
+pub mod Trials

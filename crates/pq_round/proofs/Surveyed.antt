@@ -16,8 +16,8 @@ use Rattle.pq_board.specs.declared.plan.Plan.{Plan}
 use Rattle.pq_board.specs.declared.plan.View.{View}
 use Rattle.pq_board.proofs.Bounds.{weigh_flat}
 use Rattle.pq_round.specs.Results.{given_up, all_given_up, AreSameNumbers}
-use Rattle.pq_round.specs.Crews.{AreResultsOf, IsOfItsJob}
-use Rattle.pq_round.specs.Workers.{HasDone}
+use Rattle.pq_round.specs.Workers.{IsOfItsJob, HasDone}
+use Rattle.pq_round.proofs.InOrder.{AreResultsOfAll}
 
 -- std's sums are weights too
 weigh_sum : {A : Type 0} (f : A → ℕ) (xs : List A) → sum_by f xs ≡ weigh f xs
@@ -51,7 +51,7 @@ times_early n k (x ∷ xs) = times_kept n k x (filter (λ (y : ℕ). ltb y k) xs
 
 -- where each ticket with a job was drawn once, there is one result for each job
 pub all_worked : (cells : List (Option Gate)) (rules : List RowView) (plan : Plan) (view : View) (results : List WorkedView) → view.plan ≡ plan → HoldAll plan view.tickets → HasDone cells rules view results
-    → AreResultsOf cells plan.jobs rules (λ n. ltb n (length plan.jobs)) results
+    → AreResultsOfAll cells plan.jobs rules results
 all_worked cells rules plan view results is all done = record {
   once = λ n. ap (λ (ts : List ℕ). count_by (λ (t : ℕ). t == n) ts) tickets ∙ (count_times n (filter (λ (t : ℕ). ltb t (length plan.jobs)) view.tickets) ∙ (times_early n (length plan.jobs) view.tickets ∙ once n));
   each = subst (λ (p : Plan). All (IsOfItsJob cells p.jobs rules) results) is done.each;

@@ -24,8 +24,7 @@ use Rattle.pq_board.proofs.Climbing.{contains_concat}
 use Rattle.pq_board.proofs.Whole.{lowered_both}
 use Rattle.pq_board.proofs.Claiming.{Drawn, DrawnLate}
 use Rattle.pq_round.specs.Results.{gates_at, IsResultOf, given_up, all_given_up}
-use Rattle.pq_round.specs.Crews.{IsOfItsJob}
-use Rattle.pq_round.specs.Workers.{HasDone, HasLowered, HasDrawnOne, next_of}
+use Rattle.pq_round.specs.Workers.{IsOfItsJob, HasDone, HasLowered, HasDrawnOne, next_of}
 
 -- a number that stands in the jobs at most once stands in a job at most once
 once_in_job : (p : ℕ) (jobs : List (List ℕ)) (t : ℕ) → times p (concat jobs) ≤ 1 → times p (get_or jobs t []) ≤ 1

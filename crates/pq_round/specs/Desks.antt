@@ -2,13 +2,6 @@
 use Rattle.std.specs.Prelude.{◌≡◌, ℕ, ◌≤◌, []}
 use Rattle.pq_round.specs.declared.desk.Desk.{Desk}
 
--- nothing is on it, and there is room for so many gates
-pub record IsFreeFor (room : ℕ) (desk : Desk) : Type 0 where
-  pub no_input : desk.input.items ≡ []
-  pub no_gate : desk.seg.items ≡ []
-  pub input_room : desk.input.room ≡ room
-  pub seg_room : desk.seg.room ≡ room
-
 -- nothing is on it, and there is room for as many gates at least
 pub record HasRoomFor (count : ℕ) (desk : Desk) : Type 0 where
   pub no_input : desk.input.items ≡ []

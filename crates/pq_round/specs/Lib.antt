@@ -6,6 +6,4 @@ pub use Rattle.pq_oracle.specs.Outcomes
 pub mod Results
 -- What private functions promise one another.
 pub mod Desks
-pub mod Shares
-pub mod Crews
 pub mod Workers

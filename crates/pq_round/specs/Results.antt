@@ -1,6 +1,6 @@
 -- The results of a round.
-use Rattle.std.specs.Prelude.{◌≡◌, ℕ, ◌<◌, cond, Option, None, List, [], length, drop, slice_index_or}
-use Rattle.std.specs.List.{filter_map, flat_map}
+use Rattle.std.specs.Prelude.{◌≡◌, ℕ, ◌-◌, ◌<◌, cond, Option, None, List, [], length, drop, slice_index_or}
+use Rattle.std.specs.List.{filter_map, flat_map, sum_by}
 use Rattle.pq_gate.specs.declared.gate.Gate.{Gate}
 use Rattle.pq_rules.specs.Row.{RowView}
 use Rattle.pq_oracle.specs.Ora.{Ora}
@@ -35,3 +35,7 @@ all_given_up jobs results = flat_map (given_up jobs) results
 -- the same numbers, each as often, in whatever order: their weights, added up, are the same whatever each number weighs
 abbrev pub AreSameNumbers : List ℕ → List ℕ → Type 0
 AreSameNumbers xs ys = (h : ℕ → ℕ) → weigh h xs ≡ weigh h ys
+
+-- how many gates the oracle took away in all
+abbrev pub removed_gates : List WorkedView → ℕ
+removed_gates results = sum_by (λ worked. length worked.input - length worked.answer.gates) results

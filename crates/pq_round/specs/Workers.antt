@@ -1,13 +1,17 @@
 -- What workers that claim tickets have done.
-use Rattle.std.specs.Prelude.{◌≡◌, ℕ, ◌+◌, ◌<◌, ◌≤◌, max, nat_lt, Option, List, [], ◌∷◌, ◌++◌, map, length, All}
+use Rattle.std.specs.Prelude.{◌≡◌, ℕ, ◌+◌, ◌<◌, ◌≤◌, max, nat_lt, Option, List, [], ◌∷◌, ◌++◌, map, length, slice_index_or, All}
 use Rattle.std.specs.List.{filter}
 use Rattle.pq_gate.specs.declared.gate.Gate.{Gate}
 use Rattle.pq_rules.specs.Row.{RowView}
 use Rattle.pq_oracle.specs.Outcomes.{WorkedView}
 use Rattle.pq_board.specs.Steps.{lowered_places}
 use Rattle.pq_board.specs.declared.plan.View.{View}
-use Rattle.pq_round.specs.Results.{all_given_up}
-use Rattle.pq_round.specs.Crews.{IsOfItsJob}
+use Rattle.pq_round.specs.Results.{IsResultOf, all_given_up}
+
+-- the result of the job that its ticket names
+pub record IsOfItsJob (cells : List (Option Gate)) (jobs : List (List ℕ)) (rules : List RowView) (worked : WorkedView) : Type 0 where
+  pub below : worked.ticket < length jobs
+  pub result : IsResultOf cells (slice_index_or jobs worked.ticket []) rules worked.ticket worked
 
 -- The tickets of a pass that have a job are those of the results, in order; the results are those of their jobs; and the lowered
 -- places are those that the segments gave up.

@@ -1,9 +1,9 @@
 ghost use Rattle.std.specs.Prelude.{◌≡◌, ◌≤◌, length, IfOk};
 ghost use Rattle.pq_limits.specs.declared.TheConstants.{MAX_SEGMENT};
 ghost use Rattle.pq_round.specs.Results.{IsResultOf};
-ghost use Rattle.pq_round.specs.Desks.{IsFreeFor, HasRoomFor};
+ghost use Rattle.pq_round.specs.Desks.{HasRoomFor};
 
-use pq_array::{Cells, GateArray};
+use pq_array::Cells;
 use pq_gate::GateList;
 use pq_list::OutOfMemory;
 use pq_match::Seg;
@@ -25,7 +25,7 @@ impl Desk {
     /// A desk with room for so many gates, at most 2,048.
     pub fn reserve(alloc: Global, room: u32) -> Result<Desk, OutOfMemory>
         requires { room ≤ MAX_SEGMENT }
-        ensures { IfOk result (IsFreeFor room) }
+        ensures { IfOk result (HasRoomFor room) }
     {
         let input = GateList::with_room(alloc, room)?;
         let seg = Seg::reserve(alloc, room)?;
@@ -34,26 +34,6 @@ impl Desk {
 
     /// Gives the gates at these places to the oracle, under this ticket. It takes no memory.
     pub fn work<'r>(
-        self,
-        array: &GateArray,
-        places: &[u64],
-        rules: &'r Rules,
-        ticket: u64,
-    ) -> Worked<'r>
-        requires { IsFreeFor (length places.now) self }
-        ensures { IsResultOf array.now places.now rules.entry.now ticket result }
-    {
-        let Desk { mut input, mut seg } = self;
-        for place in places {
-            if let Some(gate) = array.gate_at(*place) {
-                input.push_kept(gate);
-                seg.push(gate);
-            }
-        }
-        Worked::of(rules, ticket, input, seg)
-    }
-    /// Gives the gates at these places to the oracle, under this ticket. It takes no memory.
-    pub fn work_cells<'r>(
         self,
         cells: &Cells,
         places: &[u64],

@@ -1,16 +1,12 @@
 //! The work of one round: each job's gates are given to the oracle by one of several workers.
 #![tactic(auto)]
 
-mod crew;
 mod desk;
 mod gate;
 mod rounds;
-mod run;
-mod share;
 #[cfg(test)]
 mod tests;
 mod workers;
 
 pub use gate::{OpenGate, WorkGate};
 pub use rounds::{Round, run_round};
-pub use run::run_round as run_shares;

@@ -1,17 +1,17 @@
-ghost use Rattle.std.specs.Prelude.{◌≡◌, ◌*◌, ◌≤◌, length, IfOk, All};
+ghost use Rattle.std.specs.Prelude.{◌≡◌, ◌*◌, ◌≤◌, length, IfOk, All, IsPermutation};
+ghost use Rattle.std.specs.List.Sorted.{IsNonDecreasingBy};
 ghost use Rattle.pq_limits.specs.Limits.{IsOmega, AreWorkers};
 ghost use Rattle.pq_array.specs.Cells.{IsLive};
 ghost use Rattle.pq_board.specs.Law.{stake, late};
 ghost use Rattle.pq_board.specs.Steps.{BelongsTo, HoldAll, unused, lowered_places};
-ghost use Rattle.pq_round.specs.Results.{AreResults, AreSameNumbers, all_given_up};
+ghost use Rattle.pq_round.specs.Results.{AreResults, AreSameNumbers, all_given_up, removed_gates};
 
-use crate::crew::in_order;
 use crate::gate::WorkGate;
-use crate::workers::{Shop, work_by};
+use crate::workers::{RoundContext, work_by};
 use pq_array::Cells;
 use pq_board::{Board, Pass};
 use pq_list::OutOfMemory;
-use pq_oracle::WorkedList;
+use pq_oracle::{Worked, WorkedList};
 use pq_rules::Rules;
 use std::alloc::Global;
 use std::thread::Threads;
@@ -29,7 +29,7 @@ pub struct Round<'r> {
 /// Omega is 2 to 1,024. No more threads are started than there are jobs.
 ///
 /// There is one result for each job. An improved segment keeps its output in the first of its places; the workers lower
-/// the others. The pass that comes back is the only one: it has all tickets, and the board may be closed with it. Where
+/// the others, one for each gate that was removed. The pass that comes back is the only one: it has all tickets, and the board may be closed with it. Where
 /// memory is refused, nothing comes back.
 pub fn run_round<'r, R: Threads + Sync, G: WorkGate>(
     rt: &R,
@@ -56,19 +56,20 @@ pub fn run_round<'r, R: Threads + Sync, G: WorkGate>(
     ensures late { IfOk result (λ round. 1 ≤ late board.plan round.pass.view.tickets) }
     ensures all { IfOk result (λ round. HoldAll board.plan round.pass.view.tickets) }
     ensures lowered { IfOk result (λ round. AreSameNumbers (lowered_places round.pass.view.lowered) (all_given_up board.plan.jobs round.results.items)) }
+    ensures removed { IfOk result (λ round. length (lowered_places round.pass.view.lowered) ≡ removed_gates round.results.items) }
 {
     // the rows are sound
     let _rows = rules.count();
     let mut pass = pass;
     let threads = threads_for(board.job_count(), workers);
-    let shop = Shop {
+    let context = RoundContext {
         cells,
         board: &board,
         rules,
         omega,
         gate,
     };
-    match work_by(rt, alloc, &shop, &mut pass, threads) {
+    match work_by(rt, alloc, &context, &mut pass, threads) {
         Ok(results) => {
             board.survey(&mut pass);
             let results = in_order(results);
@@ -92,4 +93,14 @@ fn threads_for(jobs: u64, workers: u32) -> u32
     ensures enough { result ≤ workers }
 {
     u64::from(workers).min(jobs).max(1) as u32
+}
+
+/// The results in the order of their tickets.
+fn in_order(results: Vec<Worked>) -> WorkedList
+    ensures permutation { IsPermutation results.entry.items result.items }
+    ensures sorted { IsNonDecreasingBy (λ worked. worked.ticket) result.items }
+{
+    let mut list = results;
+    list.sort_unstable_by_key(|worked| worked.ticket());
+    WorkedList::of(list)
 }

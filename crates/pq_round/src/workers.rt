@@ -7,8 +7,7 @@ ghost use Rattle.pq_board.specs.Law.{job, stake, late};
 ghost use Rattle.pq_board.specs.Steps.{BelongsTo, unused, lowered_places};
 ghost use Rattle.pq_round.specs.Desks.{HasRoomFor};
 ghost use Rattle.pq_round.specs.Results.{given_up};
-ghost use Rattle.pq_round.specs.Crews.{IsOfItsJob};
-ghost use Rattle.pq_round.specs.Workers.{HasDone, HasLowered, HasDrawnOne};
+ghost use Rattle.pq_round.specs.Workers.{IsOfItsJob, HasDone, HasLowered, HasDrawnOne};
 
 use crate::desk::Desk;
 use crate::gate::WorkGate;
@@ -20,9 +19,9 @@ use pq_rules::Rules;
 use std::alloc::Global;
 use std::thread::{Threads, join_mut};
 
-/// What the workers of a round share.
+/// What the workers of a round read in common.
 #[derive(Drop)]
-pub struct Shop<'s, 'r, G> {
+pub struct RoundContext<'s, 'r, G> {
     pub cells: &'s Cells,
     pub board: &'s Board,
     pub rules: &'r Rules,
@@ -36,37 +35,37 @@ pub struct Shop<'s, 'r, G> {
 pub fn work_by<'r, R: Threads + Sync, G: WorkGate>(
     rt: &R,
     alloc: Global,
-    shop: &Shop<'_, 'r, G>,
+    context: &RoundContext<'_, 'r, G>,
     pass: &mut Pass,
     threads: u32,
 ) -> Result<Vec<Worked<'r>>, OutOfMemory>
-    requires omega { IsOmega shop.now.omega }
-    requires sound { All IsSound shop.now.rules.now }
-    requires short { All (λ places. length places ≤ 2 * shop.now.omega) shop.now.board.now.plan.jobs }
-    requires belongs { BelongsTo shop.now.board.now pass.old }
-    requires idle { pass.old.view ≡ unused shop.now.board.now.plan pass.old.view.rights }
+    requires omega { IsOmega context.now.omega }
+    requires sound { All IsSound context.now.rules.now }
+    requires short { All (λ places. length places ≤ 2 * context.now.omega) context.now.board.now.plan.jobs }
+    requires belongs { BelongsTo context.now.board.now pass.old }
+    requires idle { pass.old.view ≡ unused context.now.board.now.plan pass.old.view.rights }
     requires some { 1 ≤ threads }
     requires enough { threads ≤ pass.old.view.rights }
-    ensures belongs { BelongsTo shop.now.board.now pass.new }
-    ensures staked { stake shop.now.board.now.plan pass.new.view ≡ stake shop.now.board.now.plan pass.old.view }
-    ensures done { IfOk result (λ list. HasDone shop.now.cells.now shop.now.rules.now pass.new.view list.items) }
-    ensures late { IfOk result (λ list. 1 ≤ late shop.now.board.now.plan pass.new.view.tickets) }
+    ensures belongs { BelongsTo context.now.board.now pass.new }
+    ensures staked { stake context.now.board.now.plan pass.new.view ≡ stake context.now.board.now.plan pass.old.view }
+    ensures done { IfOk result (λ list. HasDone context.now.cells.now context.now.rules.now pass.new.view list.items) }
+    ensures late { IfOk result (λ list. 1 ≤ late context.now.board.now.plan pass.new.view.tickets) }
 {
     if threads < 2 {
-        return work_alone(alloc, shop, pass);
+        return work_alone(alloc, context, pass);
     }
     let far_threads = threads / 2;
-    let mut far_pass = shop.board.split(pass, far_threads);
+    let mut far_pass = context.board.split(pass, far_threads);
     let (near, far) = work_both(
         rt,
         alloc,
-        shop,
+        context,
         pass,
         threads - far_threads,
         &mut far_pass,
         far_threads,
     );
-    shop.board.join(pass, far_pass);
+    context.board.join(pass, far_pass);
     joined(near?, far?)
 }
 
@@ -75,7 +74,7 @@ pub fn work_by<'r, R: Threads + Sync, G: WorkGate>(
 fn work_both<'r, R: Threads + Sync, G: WorkGate>(
     rt: &R,
     alloc: Global,
-    shop: &Shop<'_, 'r, G>,
+    context: &RoundContext<'_, 'r, G>,
     near: &mut Pass,
     near_threads: u32,
     far: &mut Pass,
@@ -84,76 +83,76 @@ fn work_both<'r, R: Threads + Sync, G: WorkGate>(
     Result<Vec<Worked<'r>>, OutOfMemory>,
     Result<Vec<Worked<'r>>, OutOfMemory>,
 )
-    requires omega { IsOmega shop.now.omega }
-    requires sound { All IsSound shop.now.rules.now }
-    requires short { All (λ places. length places ≤ 2 * shop.now.omega) shop.now.board.now.plan.jobs }
-    requires near_belongs { BelongsTo shop.now.board.now near.old }
-    requires near_idle { near.old.view ≡ unused shop.now.board.now.plan near.old.view.rights }
+    requires omega { IsOmega context.now.omega }
+    requires sound { All IsSound context.now.rules.now }
+    requires short { All (λ places. length places ≤ 2 * context.now.omega) context.now.board.now.plan.jobs }
+    requires near_belongs { BelongsTo context.now.board.now near.old }
+    requires near_idle { near.old.view ≡ unused context.now.board.now.plan near.old.view.rights }
     requires near_some { 1 ≤ near_threads }
     requires near_enough { near_threads ≤ near.old.view.rights }
-    requires far_belongs { BelongsTo shop.now.board.now far.old }
-    requires far_idle { far.old.view ≡ unused shop.now.board.now.plan far.old.view.rights }
+    requires far_belongs { BelongsTo context.now.board.now far.old }
+    requires far_idle { far.old.view ≡ unused context.now.board.now.plan far.old.view.rights }
     requires far_some { 1 ≤ far_threads }
     requires far_enough { far_threads ≤ far.old.view.rights }
-    ensures near_belongs { BelongsTo shop.now.board.now near.new }
-    ensures near_staked { stake shop.now.board.now.plan near.new.view ≡ stake shop.now.board.now.plan near.old.view }
-    ensures near_done { IfOk result.0 (λ list. HasDone shop.now.cells.now shop.now.rules.now near.new.view list.items) }
-    ensures near_late { IfOk result.0 (λ list. 1 ≤ late shop.now.board.now.plan near.new.view.tickets) }
-    ensures far_belongs { BelongsTo shop.now.board.now far.new }
-    ensures far_staked { stake shop.now.board.now.plan far.new.view ≡ stake shop.now.board.now.plan far.old.view }
-    ensures far_done { IfOk result.1 (λ list. HasDone shop.now.cells.now shop.now.rules.now far.new.view list.items) }
-    ensures far_late { IfOk result.1 (λ list. 1 ≤ late shop.now.board.now.plan far.new.view.tickets) }
+    ensures near_belongs { BelongsTo context.now.board.now near.new }
+    ensures near_staked { stake context.now.board.now.plan near.new.view ≡ stake context.now.board.now.plan near.old.view }
+    ensures near_done { IfOk result.0 (λ list. HasDone context.now.cells.now context.now.rules.now near.new.view list.items) }
+    ensures near_late { IfOk result.0 (λ list. 1 ≤ late context.now.board.now.plan near.new.view.tickets) }
+    ensures far_belongs { BelongsTo context.now.board.now far.new }
+    ensures far_staked { stake context.now.board.now.plan far.new.view ≡ stake context.now.board.now.plan far.old.view }
+    ensures far_done { IfOk result.1 (λ list. HasDone context.now.cells.now context.now.rules.now far.new.view list.items) }
+    ensures far_late { IfOk result.1 (λ list. 1 ≤ late context.now.board.now.plan far.new.view.tickets) }
 {
     let mut work_near = ||
         requires shared { IsSync R.row × IsSync G.row }
-        requires omega { IsOmega shop.now.omega }
-        requires sound { All IsSound shop.now.rules.now }
-        requires short { All (λ places. length places ≤ 2 * shop.now.omega) shop.now.board.now.plan.jobs }
-        requires belongs { BelongsTo shop.now.board.now near.now }
-        requires idle { near.now.view ≡ unused shop.now.board.now.plan near.now.view.rights }
+        requires omega { IsOmega context.now.omega }
+        requires sound { All IsSound context.now.rules.now }
+        requires short { All (λ places. length places ≤ 2 * context.now.omega) context.now.board.now.plan.jobs }
+        requires belongs { BelongsTo context.now.board.now near.now }
+        requires idle { near.now.view ≡ unused context.now.board.now.plan near.now.view.rights }
         requires some { 1 ≤ near_threads }
         requires enough { near_threads ≤ near.now.view.rights }
-        ensures belongs { BelongsTo shop.entry.now.board.now near.exit.now }
-        ensures staked { stake shop.entry.now.board.now.plan near.exit.now.view ≡ stake shop.entry.now.board.now.plan near.entry.now.view }
-        ensures done { IfOk result (λ list. HasDone shop.entry.now.cells.now shop.entry.now.rules.now near.exit.now.view list.items) }
-        ensures late { IfOk result (λ list. 1 ≤ late shop.entry.now.board.now.plan near.exit.now.view.tickets) }
-    { work_by(rt, alloc, shop, near, near_threads) };
+        ensures belongs { BelongsTo context.entry.now.board.now near.exit.now }
+        ensures staked { stake context.entry.now.board.now.plan near.exit.now.view ≡ stake context.entry.now.board.now.plan near.entry.now.view }
+        ensures done { IfOk result (λ list. HasDone context.entry.now.cells.now context.entry.now.rules.now near.exit.now.view list.items) }
+        ensures late { IfOk result (λ list. 1 ≤ late context.entry.now.board.now.plan near.exit.now.view.tickets) }
+    { work_by(rt, alloc, context, near, near_threads) };
     let mut work_far = ||
         requires shared { IsSync R.row × IsSync G.row }
-        requires omega { IsOmega shop.now.omega }
-        requires sound { All IsSound shop.now.rules.now }
-        requires short { All (λ places. length places ≤ 2 * shop.now.omega) shop.now.board.now.plan.jobs }
-        requires belongs { BelongsTo shop.now.board.now far.now }
-        requires idle { far.now.view ≡ unused shop.now.board.now.plan far.now.view.rights }
+        requires omega { IsOmega context.now.omega }
+        requires sound { All IsSound context.now.rules.now }
+        requires short { All (λ places. length places ≤ 2 * context.now.omega) context.now.board.now.plan.jobs }
+        requires belongs { BelongsTo context.now.board.now far.now }
+        requires idle { far.now.view ≡ unused context.now.board.now.plan far.now.view.rights }
         requires some { 1 ≤ far_threads }
         requires enough { far_threads ≤ far.now.view.rights }
-        ensures belongs { BelongsTo shop.entry.now.board.now far.exit.now }
-        ensures staked { stake shop.entry.now.board.now.plan far.exit.now.view ≡ stake shop.entry.now.board.now.plan far.entry.now.view }
-        ensures done { IfOk result (λ list. HasDone shop.entry.now.cells.now shop.entry.now.rules.now far.exit.now.view list.items) }
-        ensures late { IfOk result (λ list. 1 ≤ late shop.entry.now.board.now.plan far.exit.now.view.tickets) }
-    { work_by(rt, alloc, shop, far, far_threads) };
+        ensures belongs { BelongsTo context.entry.now.board.now far.exit.now }
+        ensures staked { stake context.entry.now.board.now.plan far.exit.now.view ≡ stake context.entry.now.board.now.plan far.entry.now.view }
+        ensures done { IfOk result (λ list. HasDone context.entry.now.cells.now context.entry.now.rules.now far.exit.now.view list.items) }
+        ensures late { IfOk result (λ list. 1 ≤ late context.entry.now.board.now.plan far.exit.now.view.tickets) }
+    { work_by(rt, alloc, context, far, far_threads) };
     join_mut(rt, &mut work_near, &mut work_far)
 }
 
 /// Claims and works until no job is left, in this thread.
 fn work_alone<'r, G: WorkGate>(
     alloc: Global,
-    shop: &Shop<'_, 'r, G>,
+    context: &RoundContext<'_, 'r, G>,
     pass: &mut Pass,
 ) -> Result<Vec<Worked<'r>>, OutOfMemory>
-    requires omega { IsOmega shop.now.omega }
-    requires sound { All IsSound shop.now.rules.now }
-    requires short { All (λ places. length places ≤ 2 * shop.now.omega) shop.now.board.now.plan.jobs }
-    requires belongs { BelongsTo shop.now.board.now pass.old }
-    requires idle { pass.old.view ≡ unused shop.now.board.now.plan pass.old.view.rights }
+    requires omega { IsOmega context.now.omega }
+    requires sound { All IsSound context.now.rules.now }
+    requires short { All (λ places. length places ≤ 2 * context.now.omega) context.now.board.now.plan.jobs }
+    requires belongs { BelongsTo context.now.board.now pass.old }
+    requires idle { pass.old.view ≡ unused context.now.board.now.plan pass.old.view.rights }
     requires right { 1 ≤ pass.old.view.rights }
-    ensures belongs { BelongsTo shop.now.board.now pass.new }
-    ensures staked { stake shop.now.board.now.plan pass.new.view ≡ stake shop.now.board.now.plan pass.old.view }
-    ensures done { IfOk result (λ list. HasDone shop.now.cells.now shop.now.rules.now pass.new.view list.items) }
-    ensures late { IfOk result (λ list. 1 ≤ late shop.now.board.now.plan pass.new.view.tickets) }
+    ensures belongs { BelongsTo context.now.board.now pass.new }
+    ensures staked { stake context.now.board.now.plan pass.new.view ≡ stake context.now.board.now.plan pass.old.view }
+    ensures done { IfOk result (λ list. HasDone context.now.cells.now context.now.rules.now pass.new.view list.items) }
+    ensures late { IfOk result (λ list. 1 ≤ late context.now.board.now.plan pass.new.view.tickets) }
 {
     let mut results = Vec::new(alloc);
-    'jobs: while work_next(alloc, shop, pass, &mut results)? {}
+    'jobs: while work_next(alloc, context, pass, &mut results)? {}
     Ok(results)
 }
 
@@ -161,28 +160,28 @@ fn work_alone<'r, G: WorkGate>(
 /// segment, of the copy of its input, and of the result.
 fn work_next<'r, G: WorkGate>(
     alloc: Global,
-    shop: &Shop<'_, 'r, G>,
+    context: &RoundContext<'_, 'r, G>,
     pass: &mut Pass,
     results: &mut Vec<Worked<'r>>,
 ) -> Result<bool, OutOfMemory>
-    requires omega { IsOmega shop.now.omega }
-    requires sound { All IsSound shop.now.rules.now }
-    requires short { All (λ places. length places ≤ 2 * shop.now.omega) shop.now.board.now.plan.jobs }
-    requires belongs { BelongsTo shop.now.board.now pass.old }
+    requires omega { IsOmega context.now.omega }
+    requires sound { All IsSound context.now.rules.now }
+    requires short { All (λ places. length places ≤ 2 * context.now.omega) context.now.board.now.plan.jobs }
+    requires belongs { BelongsTo context.now.board.now pass.old }
     requires right { 1 ≤ pass.old.view.rights }
-    requires done { HasDone shop.now.cells.now shop.now.rules.now pass.old.view results.old.items }
-    ensures belongs { BelongsTo shop.now.board.now pass.new }
-    ensures staked { stake shop.now.board.now.plan pass.new.view ≡ stake shop.now.board.now.plan pass.old.view }
-    ensures done { IfOk result (λ more. HasDone shop.now.cells.now shop.now.rules.now pass.new.view results.new.items) }
-    ensures late { IfOk result (λ more. more ≡ false → 1 ≤ late shop.now.board.now.plan pass.new.view.tickets) }
+    requires done { HasDone context.now.cells.now context.now.rules.now pass.old.view results.old.items }
+    ensures belongs { BelongsTo context.now.board.now pass.new }
+    ensures staked { stake context.now.board.now.plan pass.new.view ≡ stake context.now.board.now.plan pass.old.view }
+    ensures done { IfOk result (λ more. HasDone context.now.cells.now context.now.rules.now pass.new.view results.new.items) }
+    ensures late { IfOk result (λ more. more ≡ false → 1 ≤ late context.now.board.now.plan pass.new.view.tickets) }
     ensures one { IfOk result (λ more. more ≡ true → HasDrawnOne pass.old.view pass.new.view) }
 {
-    let desk = Desk::reserve(alloc, 2 * shop.omega)?;
+    let desk = Desk::reserve(alloc, 2 * context.omega)?;
     results.reserve(1)?;
-    match shop.board.claim(pass) {
+    match context.board.claim(pass) {
         Some(ticket) => {
-            let places = shop.board.places(ticket);
-            results.push_reserved(work(shop, pass, ticket, places, desk));
+            let places = context.board.places(ticket);
+            results.push_reserved(work(context, pass, ticket, places, desk));
             Ok(true)
         }
         None => Ok(false),
@@ -192,28 +191,28 @@ fn work_next<'r, G: WorkGate>(
 /// Works the job of a ticket, with the gate before and after it, and lowers the places that its segment gives up. It
 /// takes no memory.
 fn work<'r, G: WorkGate>(
-    shop: &Shop<'_, 'r, G>,
+    context: &RoundContext<'_, 'r, G>,
     pass: &mut Pass,
     ticket: u64,
     places: &[u64],
     desk: Desk,
 ) -> Worked<'r>
-    requires sound { All IsSound shop.now.rules.now }
-    requires belongs { BelongsTo shop.now.board.now pass.old }
-    requires early { ticket < length shop.now.board.now.plan.jobs }
+    requires sound { All IsSound context.now.rules.now }
+    requires belongs { BelongsTo context.now.board.now pass.old }
+    requires early { ticket < length context.now.board.now.plan.jobs }
     requires held { Contains pass.old.view.tickets ticket }
-    requires fresh { All (λ place. Contains (lowered_places pass.old.view.lowered) place → ⊥) (job shop.now.board.now.plan ticket) }
-    requires places { places.now ≡ job shop.now.board.now.plan ticket }
+    requires fresh { All (λ place. Contains (lowered_places pass.old.view.lowered) place → ⊥) (job context.now.board.now.plan ticket) }
+    requires places { places.now ≡ job context.now.board.now.plan ticket }
     requires room { HasRoomFor (length places.now) desk }
     ensures board { pass.new.board ≡ pass.old.board }
-    ensures lowered { HasLowered pass.old.view pass.new.view (given_up shop.now.board.now.plan.jobs result) }
+    ensures lowered { HasLowered pass.old.view pass.new.view (given_up context.now.board.now.plan.jobs result) }
     ensures ticket { result.ticket ≡ ticket }
-    ensures result { IsOfItsJob shop.now.cells.now shop.now.board.now.plan.jobs shop.now.rules.now result }
+    ensures result { IsOfItsJob context.now.cells.now context.now.board.now.plan.jobs context.now.rules.now result }
 {
-    shop.gate.before(ticket);
-    let worked = desk.work_cells(shop.cells, places, shop.rules, ticket);
-    give_up(shop.board, pass, &worked);
-    shop.gate.after(ticket);
+    context.gate.before(ticket);
+    let worked = desk.work(context.cells, places, context.rules, ticket);
+    give_up(context.board, pass, &worked);
+    context.gate.after(ticket);
     worked
 }
 
@@ -250,7 +249,7 @@ fn lower_each(board: &Board, pass: &mut Pass, ticket: u64, places: &[u64])
     }
 }
 
-/// The results of two crews as one list.
+/// The results of two parts of the workers as one list.
 fn joined<'r>(near: Vec<Worked<'r>>, far: Vec<Worked<'r>>) -> Result<Vec<Worked<'r>>, OutOfMemory>
     ensures { IfOk result (λ list. list.items ≡ near.entry.items ++ far.entry.items) }
 {

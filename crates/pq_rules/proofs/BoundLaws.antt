@@ -1,15 +1,15 @@
-use Rattle.std.proofs.Common.{◌≡◌, ℕ, zero, suc, ◌+◌, ◌*◌, ◌^◌, ◌≤◌, Bool, true, false, List, [], ◌∷◌, length, set, ap, subst, ◌∙◌, arith}
+use Rattle.std.proofs.Common.{◌≡◌, ℕ, zero, suc, ◌+◌, ◌*◌, ◌^◌, ◌≤◌, Bool, true, false, List, [], ◌∷◌, length, set, ap, sym, subst, ◌∙◌, arith}
 use Rattle.std.specs.Prelude.{ℤ, cond}
 use lib.Pow.{pow_mono}
 use Rattle.std.proofs.Math.Nat.{pow-suc}
 use Rattle.std.proofs.lemmas.Int.{ints}
 use Rattle.pq_gate.specs.declared.gate.Gate.{Gate}
-use Rattle.pq_gate.specs.declared.gate.Gate.TheVariants.{H, X, Phase, Cx}
 use Rattle.pq_gate.specs.declared.ring.Ring.{Ring}
 use Rattle.pq_gate.specs.Bits.{bit, same_bits}
-use Rattle.pq_gate.specs.Eighths.{eighths_of}
 use Rattle.pq_gate.specs.Matrix.{through, Entry}
 use Rattle.pq_gate.specs.Ring.{nought, one, plus, turn, root, turned, turned_if, rooted}
+use Rattle.pq_gate.proofs.GateFacts.{form_of, gate_facts}
+use Rattle.pq_gate.proofs.GateForms.{Form, turns, flips, mixes, all_on, by_form}
 use Rattle.pq_rules.specs.Bounds.{IsBetween, IsWithin}
 
 between : (limit : ℕ) (z : ℤ) (wider : ℕ) → IsBetween limit z → limit ≤ wider → IsBetween wider z
@@ -79,13 +79,18 @@ IsWithin-turned_if false k is = is
 doubled : (k : ℕ) → 2 * 2 ^ k ≡ 2 ^ suc k
 doubled k = omega (arith, pow-suc 2 k)
 
+form_within : {limit : ℕ} (a : Form) (f : List Bool → Ring) → ((z : List Bool) → IsWithin limit (f z)) →
+    (x : List Bool) → IsWithin (2 * limit) (by_form a f x)
+form_within {limit} (turns ws k) f all x = IsWithin-more (2 * limit) (IsWithin-turned_if (all_on ws x) k (all x)) (omega arith)
+form_within {limit} (flips w ws) f all x = IsWithin-more (2 * limit) (all _) (omega arith)
+form_within (mixes w) f all x = IsWithin-plus (all (set x w false)) (IsWithin-turned_if (bit x w) 4 (all (set x w true)))
+
 -- a gate doubles the bound at most
 pub IsWithin-through : {limit : ℕ} (g : Gate) (f : List Bool → Ring) → ((z : List Bool) → IsWithin limit (f z)) →
     (x : List Bool) → IsWithin (2 * limit) (through g f x)
-IsWithin-through (H w) f all x = IsWithin-plus (all (set x w false)) (IsWithin-turned_if (bit x w) 4 (all (set x w true)))
-IsWithin-through {limit} (X w) f all x = IsWithin-more (2 * limit) (all _) (omega arith)
-IsWithin-through {limit} (Phase k w) f all x = IsWithin-more (2 * limit) (IsWithin-turned_if (bit x w) (eighths_of k) (all x)) (omega arith)
-IsWithin-through {limit} (Cx c t) f all x = IsWithin-more (2 * limit) (all _) (omega arith)
+IsWithin-through {limit} g f all x =
+    let acts : by_form (form_of g) f x ≡ through g f x = λ i. sym (gate_facts g).acts i f x in
+    subst (IsWithin (2 * limit)) acts (form_within (form_of g) f all x)
 
 point_within : (p : Bool) → IsWithin 1 (cond p one nought)
 point_within true = IsWithin-one

@@ -1,16 +1,17 @@
-use Rattle.std.proofs.Common.{◌≡◌, ◌≢◌, ℕ, zero, suc, ◌<◌, Bool, true, false, not, cond, List, [], ◌∷◌, map, length, get_or, set, refl, ap, sym, subst, ◌∙◌, arith}
+use Rattle.std.proofs.Common.{◌≡◌, ◌≢◌, ℕ, zero, suc, ◌<◌, Bool, true, false, not, ◌&&◌, cond, List, [], ◌∷◌, map, length, get_or, set, inl, inr, refl, ap, sym, subst, ◌∙◌, arith}
 use Rattle.std.proofs.lemmas.List.{length-set, set-set, set_comm, set-get_or, get_or-set_same, get_or-set_other}
 use Rattle.pq_gate.specs.declared.gate.Gate.{Gate}
-use Rattle.pq_gate.specs.declared.gate.Gate.TheVariants.{H, X, Phase, Cx}
 use Rattle.pq_gate.specs.declared.ring.Ring.{Ring}
-use Rattle.pq_gate.specs.Bits.{bit}
+use Rattle.pq_gate.specs.Bits.{bit, toggled}
 use Rattle.pq_gate.specs.Circuit.{AreOn, IsOnWires, IsCircuit}
-use Rattle.pq_gate.specs.Eighths.{eighths_of}
 use Rattle.pq_gate.specs.Ring.{plus, turned, turned_if, rooted}
 use Rattle.pq_gate.specs.Matrix.{through, roots_of, h_count, Same}
-use Rattle.pq_gate.specs.Ports.{wires_of}
+use Rattle.pq_gate.specs.Ports.{wires_of, IsAmong}
 use Rattle.pq_gate.proofs.ActLaws.{through_reads, Act}
+use Rattle.pq_gate.proofs.GateFacts.{form_of, gate_facts}
+use Rattle.pq_gate.proofs.GateForms.{Form, turns, flips, mixes, all_on, by_form, led, roots_by, roots_led, Fits}
 use Rattle.pq_gate.proofs.SameLaws.{Same-acts, Same-from_acts}
+use Rattle.pq_gate.proofs.WireLaws.{wire_below}
 use Rattle.pq_rules.specs.Renaming.{IsRenaming, renamed}
 
 -- the values of the renamed wires
@@ -77,22 +78,41 @@ set-pushed (suc m) n (h ∷ e) x (p ∷ z) is x_is z_is (suc w) q below =
     (set-pushed m n e x z (renaming_tail is) x_is (let all : suc (length z) ≡ suc m = z_is in omega arith) w q (omega arith))
 
 module _ (m n : ℕ) (e : List ℕ) (is : IsRenaming m n e) (x : List Bool) (x_is : length x ≡ n) where
+  all_on-renamed : (ws : List ℕ) → ((w : ℕ) → IsAmong w ws → w < m) → (z : List Bool) → length z ≡ m →
+      all_on (map (λ w. get_or e w 0) ws) (pushed e x z) ≡ all_on ws z
+  all_on-renamed [] below z z_is = refl
+  all_on-renamed (w ∷ []) below z z_is = bit-pushed m n e x z is x_is z_is w (below w refl)
+  all_on-renamed (v ∷ w ∷ rest) below z z_is =
+      λ i. bit-pushed m n e x z is x_is z_is v (below v (inl refl)) i && all_on-renamed (w ∷ rest) (λ u later. below u (inr later)) z z_is i
+
+  toggled-renamed : (w : ℕ) (p : Bool) → w < m → (z : List Bool) → length z ≡ m →
+      toggled (pushed e x z) (get_or e w 0) p ≡ pushed e x (toggled z w p)
+  toggled-renamed w p below z z_is =
+      ap (λ (q : Bool). set (pushed e x z) (get_or e w 0) (cond p (not q) q)) (bit-pushed m n e x z is x_is z_is w below) ∙
+      set-pushed m n e x z is x_is z_is w (cond p (not (bit z w)) (bit z w)) below
+
+  form-renamed : (g : Gate) → IsOnWires m g → (a : Form) → Fits g a → (f : List Bool → Ring) (z : List Bool) → length z ≡ m →
+      by_form (led (λ w. get_or e w 0) a) f (pushed e x z) ≡ by_form a (λ y. f (pushed e x y)) z
+  form-renamed g on (turns ws k) fits f z z_is =
+      ap (λ (p : Bool). turned_if p k (f (pushed e x z))) (all_on-renamed ws (λ w among. wire_below m g on w (fits w among).uses) z z_is)
+  form-renamed g on (flips w ws) fits f z z_is =
+      ap (λ (p : Bool). f (toggled (pushed e x z) (get_or e w 0) p))
+      (all_on-renamed ws (λ v among. wire_below m g on v (fits.1 v among).uses) z z_is) ∙
+      ap f (toggled-renamed w (all_on ws z) (wire_below m g on w fits.0.uses) z z_is)
+  form-renamed g on (mixes w) fits f z z_is =
+      let below : w < m = wire_below m g on w fits.0.uses in
+      λ i. plus (f (set-pushed m n e x z is x_is z_is w false below i))
+      (turned_if (bit-pushed m n e x z is x_is z_is w below i) 4 (f (set-pushed m n e x z is x_is z_is w true below i)))
+
   -- a renamed gate acts on the written values
   through-renamed : (g : Gate) → IsOnWires m g → (f : List Bool → Ring) (z : List Bool) → length z ≡ m →
       through (renamed e g) f (pushed e x z) ≡ through g (λ y. f (pushed e x y)) z
-  through-renamed (H w) on f z z_is =
-      λ i. plus (f (set-pushed m n e x z is x_is z_is w false on i))
-      (turned_if (bit-pushed m n e x z is x_is z_is w on i) 4 (f (set-pushed m n e x z is x_is z_is w true on i)))
-  through-renamed (X w) on f z z_is =
-      ap (λ (p : Bool). f (set (pushed e x z) (get_or e w 0) (not p))) (bit-pushed m n e x z is x_is z_is w on) ∙
-      ap f (set-pushed m n e x z is x_is z_is w (not (bit z w)) on)
-  through-renamed (Phase k w) on f z z_is =
-      ap (λ (p : Bool). turned_if p (eighths_of k) (f (pushed e x z))) (bit-pushed m n e x z is x_is z_is w on)
-  through-renamed (Cx c t) on f z z_is =
-      ap (λ (p : Bool). f (set (pushed e x z) (get_or e t 0) (cond p (not (bit (pushed e x z) (get_or e t 0))) (bit (pushed e x z) (get_or e t 0)))))
-      (bit-pushed m n e x z is x_is z_is c on.0) ∙
-      ap (λ (p : Bool). f (set (pushed e x z) (get_or e t 0) (cond (bit z c) (not p) p))) (bit-pushed m n e x z is x_is z_is t on.1) ∙
-      ap f (set-pushed m n e x z is x_is z_is t (cond (bit z c) (not (bit z t)) (bit z t)) on.1)
+  through-renamed g on f z z_is =
+      let facts = gate_facts g in
+      (λ i. (gate_facts (renamed e g)).acts i f (pushed e x z)) ∙
+      (λ i. by_form (facts.form_led (λ w. get_or e w 0) i) f (pushed e x z)) ∙
+      form-renamed g on (form_of g) (facts.fits m on) f z z_is ∙
+      (λ i. sym facts.acts i (λ y. f (pushed e x y)) z)
 
   -- so do renamed circuits
   pub Act-renamed : (p : List Gate) → IsCircuit m p → (f : List Bool → Ring) (z : List Bool) → length z ≡ m →
@@ -109,10 +129,7 @@ AreOn-renamed is (c ∷ t ∷ rest) on = (is.inside c on.0, is.inside t on.1, λ
 
 -- the wires of a renamed gate are those that its wires are led to
 pub wires_of-renamed : (e : List ℕ) (g : Gate) → wires_of (renamed e g) ≡ map (λ w. get_or e w 0) (wires_of g)
-wires_of-renamed e (H w) = refl
-wires_of-renamed e (X w) = refl
-wires_of-renamed e (Phase k w) = refl
-wires_of-renamed e (Cx c t) = refl
+wires_of-renamed e g = (gate_facts g).wires_led (λ w. get_or e w 0)
 
 IsOnWires-renamed : {m n : ℕ} {e : List ℕ} → IsRenaming m n e → (g : Gate) → IsOnWires m g → IsOnWires n (renamed e g)
 IsOnWires-renamed {m} {n} {e} is g on = subst (AreOn n) (sym (wires_of-renamed e g)) (AreOn-renamed is (wires_of g) on)
@@ -123,10 +140,9 @@ IsCircuit-renamed is [] all = tt
 IsCircuit-renamed is (g ∷ p) all = (IsOnWires-renamed is g all.0, IsCircuit-renamed is p all.1)
 
 roots_of-renamed : (e : List ℕ) (g : Gate) → roots_of (renamed e g) ≡ roots_of g
-roots_of-renamed e (H w) = refl
-roots_of-renamed e (X w) = refl
-roots_of-renamed e (Phase k w) = refl
-roots_of-renamed e (Cx c t) = refl
+roots_of-renamed e g =
+    (gate_facts (renamed e g)).roots ∙ ap roots_by ((gate_facts g).form_led (λ w. get_or e w 0)) ∙
+    roots_led (λ w. get_or e w 0) (form_of g) ∙ sym (gate_facts g).roots
 
 pub h_count-renamed : (e : List ℕ) (p : List Gate) → h_count (map (renamed e) p) ≡ h_count p
 h_count-renamed e [] = refl

@@ -1,5 +1,5 @@
 -- What is seen next on a wire, by the first two roles of a pattern there.
-use Rattle.std.proofs.Common.{◌≡◌, ℕ, ◌+◌, ◌/◌, ◌%◌, ◌<◌, ◌⊎◌, inl, inr, List, [], ◌∷◌, ◌++◌, drop, length, get_or, arith, sym, ap, ◌∙◌, refl}
+use Rattle.std.proofs.Common.{◌≡◌, ℕ, ◌+◌, ◌*◌, ◌/◌, ◌%◌, ◌<◌, ◌⊎◌, inl, inr, List, [], ◌∷◌, ◌++◌, drop, length, get_or, arith, sym, ap, ◌∙◌, refl}
 use Rattle.std.proofs.lemmas.Bool.{cases_order}
 use Rattle.std.proofs.Math.ListN.{get_or-append}
 use Rattle.std.proofs.Math.Seq.{get_or-append_seam}
@@ -9,9 +9,11 @@ use Rattle.pq_rules.specs.Kinds.{numbers_where}
 use Rattle.pq_rules.specs.Row.{RowView}
 use Rattle.std.specs.Prelude.{Option, Some, None, slice_get}
 use Rattle.pq_gate.specs.declared.gate.Gate.{Gate}
+use Rattle.pq_gate.specs.declared.kind.TheConstants.{KINDS}
 use Rattle.pq_gate.specs.declared.role.Role.{Role}
 use Rattle.pq_gate.specs.Ports.{last_wire}
 use Rattle.pq_rules.specs.declared.seen.Seen.{Seen}
+use Rattle.pq_rules.specs.declared.seen.TheConstants.{SEEN}
 use Rattle.pq_rules.specs.Seen.{last_role, roles_on, admits_roles, admits, admits_two, LeadsRoles, AreFirstTwo, seen_number, entry_of, is_admitting}
 
 two_first : (first : Role) (roles : List Role) (near far : Seen) → admits_two first (slice_get roles 0) (slice_get roles 1) near far ≡ admits_roles first roles near far
@@ -49,7 +51,7 @@ pub pattern_by_two : (pattern : List Gate) (d : Gate) (first : Role) (next later
 pattern_by_two [] d first next later near far some is two = absurd (omega arith)
 pattern_by_two (gate ∷ rest) d first next later near far some is two = admitted_by_two gate rest first next later near far is two
 
-seen_below : (s : Seen) → seen_number s < 11
+seen_below : (s : Seen) → seen_number s < SEEN
 seen_below seen.Nothing = omega arith
 seen_below seen.Unclear = omega arith
 seen_below (seen.Plays own) = omega (arith, role_below own)
@@ -67,11 +69,11 @@ same_seen (seen.Plays own) seen.Nothing same = absurd (omega (arith, role_below 
 same_seen (seen.Plays own) seen.Unclear same = absurd (omega (arith, role_below own))
 
 -- the entry of a kind and of what is seen, read back
-pub entry_read : (k : ℕ) (near far one other : Seen) (entry : ℕ) → entry_of k near far ≡ entry → seen_number one ≡ entry / 11 % 11 → seen_number other ≡ entry % 11 →
-    (k ≡ entry / 121) × (near ≡ one) × (far ≡ other)
+pub entry_read : (k : ℕ) (near far one other : Seen) (entry : ℕ) → entry_of k near far ≡ entry → seen_number one ≡ entry / SEEN % SEEN → seen_number other ≡ entry % SEEN →
+    (k ≡ entry / (SEEN * SEEN)) × (near ≡ one) × (far ≡ other)
 entry_read k near far one other entry is one_is other_is =
-    let a : seen_number near < 11 = seen_below near in
-    let b : seen_number far < 11 = seen_below far in (
+    let a : seen_number near < SEEN = seen_below near in
+    let b : seen_number far < SEEN = seen_below far in (
       omega (arith, is, a, b),
       same_seen near one (omega (arith, is, a, b, one_is)),
       same_seen far other (omega (arith, is, a, b, other_is)),
@@ -79,9 +81,9 @@ entry_read k near far one other entry is one_is other_is =
 
 -- one entry more
 pub table_more : {X : Type 0} (value : X → List ℕ) (rows : List RowView) (table : List X) (entry : ℕ) (x d : X) (near far : Seen) → length table ≡ entry →
-    seen_number near ≡ entry / 11 % 11 → seen_number far ≡ entry % 11 → value x ≡ numbers_where (is_admitting (entry / 121) near far) 1 rows →
-    ((k : ℕ) (one other : Seen) → k < 8 → entry_of k one other < entry → value (get_or table (entry_of k one other) d) ≡ numbers_where (is_admitting k one other) 1 rows) →
-    (k : ℕ) (one other : Seen) → k < 8 → entry_of k one other < entry + 1 → value (get_or (table ++ x ∷ []) (entry_of k one other) d) ≡ numbers_where (is_admitting k one other) 1 rows
+    seen_number near ≡ entry / SEEN % SEEN → seen_number far ≡ entry % SEEN → value x ≡ numbers_where (is_admitting (entry / (SEEN * SEEN)) near far) 1 rows →
+    ((k : ℕ) (one other : Seen) → k < KINDS → entry_of k one other < entry → value (get_or table (entry_of k one other) d) ≡ numbers_where (is_admitting k one other) 1 rows) →
+    (k : ℕ) (one other : Seen) → k < KINDS → entry_of k one other < entry + 1 → value (get_or (table ++ x ∷ []) (entry_of k one other) d) ≡ numbers_where (is_admitting k one other) 1 rows
 table_more value rows table entry x d near far long near_is far_is is before k one other below inside = by (cases_order (entry_of k one other) entry)
   where
     by : (entry_of k one other ≡ entry) ⊎ ((entry_of k one other < entry) ⊎ (entry < entry_of k one other)) →
@@ -90,8 +92,8 @@ table_more value rows table entry x d near far long near_is far_is is before k o
         let read = entry_read k one other near far entry same near_is far_is in
         ap value (ap (λ (i : ℕ). get_or (table ++ x ∷ []) i d) (same ∙ sym long) ∙ get_or-append_seam table x [] d)
         ∙ (is ∙ sym (ap (λ (m : ℕ). numbers_where (is_admitting m one other) 1 rows) read.0
-        ∙ (ap (λ (s : Seen). numbers_where (is_admitting (entry / 121) s other) 1 rows) read.1
-        ∙ ap (λ (s : Seen). numbers_where (is_admitting (entry / 121) near s) 1 rows) read.2)))
+        ∙ (ap (λ (s : Seen). numbers_where (is_admitting (entry / (SEEN * SEEN)) s other) 1 rows) read.1
+        ∙ ap (λ (s : Seen). numbers_where (is_admitting (entry / (SEEN * SEEN)) near s) 1 rows) read.2)))
     by (inr (inl less)) =
         ap value (get_or-append table (x ∷ []) d (entry_of k one other) (omega arith)) ∙ before k one other below less
     by (inr (inr more)) = absurd (omega arith)

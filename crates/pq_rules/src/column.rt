@@ -146,7 +146,7 @@ pub fn turned_by(ring: Ring, k: u8) -> Ring
 
 // ω^k times the element where the bit is 1
 fn turned_where(bit: bool, k: u8, ring: Ring) -> Ring
-    requires { IsWithin 32768 ring }
+    requires { IsWithin 16384 ring }
     ensures { result ≡ turned_if bit k ring }
 {
     if bit { turned_by(ring, k) } else { ring }

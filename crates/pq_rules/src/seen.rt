@@ -3,7 +3,7 @@
 ghost use Rattle.std.specs.Prelude.{◌≡◌, ◌∷◌, [], ◌+◌, ◌<◌, drop, length, slice_get, None, Some};
 ghost use Rattle.pq_rules.specs.Seen.{role_on, roles_on, last_role, agree, may_be, may_pass, goes_on, admits_roles, admits, seen_number, LeadsRoles, AreFirstTwo, goes_on_to, admits_two};
 
-use pq_gate::{Axis, Eighths, Gate, Ports, ROLES, Role};
+use pq_gate::{Axis, Gate, Ports, ROLES, Role};
 
 /// What stands next on a wire.
 #[derive(Clone, Copy, Debug, PartialEq, Eq)]
@@ -40,18 +40,12 @@ pub fn seen_numbered(number: u8) -> Seen
     requires { number < SEEN }
     ensures { seen_number result ≡ number }
 {
-    match number {
-        0 => Seen::Plays(Role::H),
-        1 => Seen::Plays(Role::X),
-        2 => Seen::Plays(Role::Control),
-        3 => Seen::Plays(Role::Target),
-        4 => Seen::Plays(Role::Phase(Eighths::T)),
-        5 => Seen::Plays(Role::Phase(Eighths::S)),
-        6 => Seen::Plays(Role::Phase(Eighths::Z)),
-        7 => Seen::Plays(Role::Phase(Eighths::Sdg)),
-        8 => Seen::Plays(Role::Phase(Eighths::Tdg)),
-        ROLES => Seen::Nothing,
-        _ => Seen::Unclear,
+    if number < ROLES {
+        Seen::Plays(Role::numbered(number))
+    } else if number == ROLES {
+        Seen::Nothing
+    } else {
+        Seen::Unclear
     }
 }
 

@@ -7,11 +7,12 @@ use Rattle.std.proofs.lemmas.List.Elements.{All-head, All-tail, All-take, All-dr
 use Rattle.std.proofs.lemmas.Fmt.{length-decimal-le}
 use Rattle.std.proofs.Math.Nat.{mul-suc}
 use Rattle.pq_gate.specs.declared.gate.Gate.{Gate}
-use Rattle.pq_gate.specs.declared.gate.Gate.TheVariants.{H, X, Phase, Cx}
-use Rattle.pq_gate.specs.declared.gate.Eighths.TheVariants.{T, S, Z, Sdg, Tdg}
+use Rattle.pq_gate.specs.Ports.{wires_of}
+use Rattle.pq_gate.proofs.WireLaws.{few_wires}
 use Rattle.pq_text.specs.Program.{RegisterView, TailView, Barrier, Measure, ProgramView, places_of, entries_of}
-use Rattle.pq_text.specs.Print.{header, indexed, place, register_line, gate_line, tail_line, print}
+use Rattle.pq_text.specs.Print.{header, indexed, place, register_line, gate_word, gate_line, tail_line, print}
 use Rattle.pq_text.specs.WellFormed.{IsRegister, IsTailEntry, WellFormed}
+use Rattle.pq_write.proofs.WordFacts.{word_facts}
 
 pub indexed_short : (name : List ℕ) (n : ℕ) → length name ≤ 64 → n < 2 ^ 32 → length (indexed name n) ≤ 110
 indexed_short name n short small =
@@ -46,17 +47,6 @@ lines_short f m (x ∷ xs) short =
 one_short : (text : List ℕ) → length text ≤ 110 → length (text ++ codes ";\n") ≤ 112
 one_short text short = omega (arith, length-append text (codes ";\n"))
 
-pub gate_short : (regs : List RegisterView) → ((n : ℕ) → length (place regs n) ≤ 110) → (g : Gate) → length (gate_line regs g) ≤ 300
-gate_short regs short (H w) = omega (arith, one_short (place regs w) (short w))
-gate_short regs short (X w) = omega (arith, one_short (place regs w) (short w))
-gate_short regs short (Phase T w) = omega (arith, one_short (place regs w) (short w))
-gate_short regs short (Phase S w) = omega (arith, one_short (place regs w) (short w))
-gate_short regs short (Phase Z w) = omega (arith, one_short (place regs w) (short w))
-gate_short regs short (Phase Sdg w) = omega (arith, one_short (place regs w) (short w))
-gate_short regs short (Phase Tdg w) = omega (arith, one_short (place regs w) (short w))
-gate_short regs short (Cx v w) =
-    omega (arith, length-append (place regs v ++ 44 ∷ place regs w) (codes ";\n"), length-append (place regs v) (44 ∷ place regs w), short v, short w)
-
 pub register_short : (word : List ℕ) (r : RegisterView) → length word ≡ 4 → IsRegister r → r.size ≤ 4096 → length (register_line word r) ≤ 120
 register_short word r four own small =
     let named = own.named in
@@ -77,6 +67,18 @@ joined_short regs short (w ∷ []) = omega (arith, short w)
 joined_short regs short (w ∷ v ∷ ws) =
     let more = joined_short regs short (v ∷ ws) in
     omega (arith, short w, length-append (place regs w) (44 ∷ join_with_byte 44 (map (place regs) (v ∷ ws))))
+
+pub gate_short : (regs : List RegisterView) → ((n : ℕ) → length (place regs n) ≤ 110) → (g : Gate) → length (gate_line regs g) ≤ 300
+gate_short regs short g =
+    let arguments : List ℕ = join_with_byte 44 (map (place regs) (wires_of g)) in
+    omega (
+      arith,
+      length-append (gate_word g) (32 ∷ arguments ++ codes ";\n"),
+      length-append arguments (codes ";\n"),
+      joined_short regs short (wires_of g),
+      few_wires g,
+      (word_facts g).short,
+    )
 
 tail_short : (qregs cregs : List RegisterView) → ((n : ℕ) → length (place qregs n) ≤ 110) → ((n : ℕ) → length (place cregs n) ≤ 110) → (n m : ℕ) (t : TailView) → IsTailEntry n m t → length (tail_line qregs cregs t) ≤ 300 * entries_of (t ∷ [])
 tail_short qregs cregs short also n m (Barrier wires) entry =

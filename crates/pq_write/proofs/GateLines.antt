@@ -1,29 +1,30 @@
 -- The line of a gate is read as this gate.
-use Rattle.std.proofs.Common.{◌≡◌, ◌≢◌, ℕ, suc, ◌+◌, ◌<◌, ◌≤◌, Bool, true, false, not, ◌&&◌, eqb, eqb-true, ltb-true, cond, nat_lt, List, [], ◌∷◌, ◌++◌, length, map, All, AllPairs, codes, Result, Ok, Err, refl, ap, ◌∙◌, arith}
+use Rattle.std.proofs.Common.{◌≡◌, ◌≢◌, ℕ, suc, ◌+◌, ◌<◌, ◌≤◌, Bool, true, false, not, ◌&&◌, eqb, eqb-true, ltb-true, cond, nat_lt, List, [], ◌∷◌, ◌++◌, length, map, All, AllPairs, Result, Ok, Err, refl, ap, sym, subst, ◌∙◌, arith}
 use Rattle.pq_lex.specs.declared.token.Form.TheVariants.{Word}
 use Rattle.pq_lex.specs.Token.{TokenView}
 use Rattle.pq_gate.specs.declared.gate.Gate.{Gate}
-use Rattle.pq_gate.specs.declared.gate.Gate.TheVariants.{H, X, Phase, Cx}
-use Rattle.pq_gate.specs.declared.gate.Eighths.{Eighths}
-use Rattle.pq_gate.specs.declared.gate.Eighths.TheVariants.{T, S, Z, Sdg, Tdg}
-use Rattle.pq_gate.specs.Circuit.{IsOnWires}
+use Rattle.pq_gate.specs.declared.ports.Ports.{Ports}
+use Rattle.pq_gate.specs.declared.ports.Ports.TheVariants.{One, Two}
+use Rattle.pq_gate.specs.Circuit.{AreOn, IsOnWires}
+use Rattle.pq_gate.specs.Ports.{ports_of, listed_ports, wires_of, first_of, last_of, first_wire, last_wire}
+use Rattle.pq_gate.proofs.GateFacts.{gate_facts}
 use Rattle.pq_text.specs.Program.{RegisterView, TailView, places_of}
-use Rattle.pq_text.specs.Print.{phase_word}
+use Rattle.pq_text.specs.Print.{gate_word}
 use Rattle.pq_text.specs.WellFormed.{IsRegister}
 use Rattle.pq_read.specs.declared.refusal.Kind.TheVariants.{BarrierInside}
 use Rattle.pq_read.specs.declared.refusal.Refusal.{Refusal}
 use Rattle.pq_read.specs.declared.program.Options.{Options}
 use Rattle.pq_read.specs.declared.word.GateWord.{GateWord}
-use Rattle.pq_read.specs.declared.word.GateWord.TheVariants as words
 use Rattle.pq_read.specs.declared.word.FirstWord.{FirstWord}
 use Rattle.pq_read.specs.declared.word.FirstWord.TheVariants.{Gate as KnownGate}
 use Rattle.pq_read.specs.Faults.{◌>>=◌, refused}
 use Rattle.pq_read.specs.Words.{more_arguments, first_word}
 use Rattle.pq_read.specs.Environment.{Env}
 use Rattle.pq_read.specs.Arguments.{arguments_after, arguments_at}
-use Rattle.pq_read.specs.Expansion.{gates_of}
+use Rattle.pq_read.specs.Expansion.{expansion, gates_of}
 use Rattle.pq_read.specs.After.{header_at, allowed, gate_at, put, statement_by, statement_at, piece_at, with_gates, after}
-use Rattle.pq_write.proofs.Shapes.{Shape, shape, shape_of, comma, semicolon, indexed_shapes, place_shapes, gate_shapes}
+use Rattle.pq_write.proofs.Shapes.{Shape, shape, shape_of, comma, semicolon, indexed_shapes, place_shapes, statement_shapes, gate_shapes}
+use Rattle.pq_write.proofs.WordFacts.{word_facts}
 use Rattle.pq_write.proofs.Arguments.{token_at, placed, nth, is_placed, untrue, from_fifth, IsPlace, place_from, argument_of, place_read}
 
 -- the tokens after the first word
@@ -89,73 +90,73 @@ gate_read options E word known t ts gates header included none first read =
     statement_read options E word (KnownGate known) t ts (with_gates E gates) header included first
     (rw (gate_allowed options E.program.tail (token_at (shape Word word) t) none, read) refl)
 
-phase_known : (e : Eighths) → first_word true (phase_word e) ≡ KnownGate (words.Phase e)
-phase_known T = refl
-phase_known S = refl
-phase_known Z = refl
-phase_known Sdg = refl
-phase_known Tdg = refl
-
 one_more : (old : List Gate) → length old < 1048576 → nat_lt 1048576 (length old + 1) ≡ false
 one_more old few = untrue (nat_lt 1048576 (length old + 1)) (λ yes. omega (arith, ltb-true 1048576 (length old + 1) yes))
 
--- a gate on one wire by its word
-one_wire : (options : Options) (E : Env) (g : Gate) (front : List TokenView) (word : List ℕ) (known : GateWord) (w : ℕ) (p : IsPlace 0 E.program.qregs w)
-    → E.header ≡ true → E.included ≡ true → E.program.tail ≡ [] → length E.program.gates < 1048576
-    → first_word true word ≡ KnownGate known → more_arguments known ≡ 0 → ((t : TokenView) → gates_of known (argument_of p t ∷ []) ≡ g ∷ [])
-    → map shape_of front ≡ shape Word word ∷ place_shapes E.program.qregs w ++ semicolon ∷ []
-    → after options E front ≡ Ok (with_gates E (E.program.gates ++ g ∷ []))
-one_wire options E g front word known w p header included none few first no_more made shaped =
-    let spots = λ (k : ℕ). nth front (suc k) in
-    ap (after options E) (is_placed (shape Word word ∷ one_place p) front (shaped ∙ ap (λ ss. shape Word word ∷ ss ++ semicolon ∷ []) p.written))
-    ∙ gate_read options E word known (nth front 0) (placed (one_place p) spots) (E.program.gates ++ g ∷ []) header included none first
-    (one_read known E.program.qregs E.program.gates (g ∷ []) w p spots no_more (made (spots 0)) (one_more E.program.gates few))
-
-h_made : (regs : List RegisterView) (w : ℕ) (p : IsPlace 0 regs w) (t : TokenView) → gates_of words.H (argument_of p t ∷ []) ≡ H w ∷ []
+-- the gate that the arguments make
+one_made : (g : Gate) {regs : List RegisterView} {w : ℕ} (p : IsPlace 0 regs w) (t : TokenView) → wires_of g ≡ w ∷ []
+    → more_arguments (word_facts g).known ≡ 0 → gates_of (word_facts g).known (argument_of p t ∷ []) ≡ g ∷ []
 unfolding gates_of
-h_made regs w p t = let there : p.span.first + p.index ≡ w = omega (arith, p.reached) in ap (λ k. H k ∷ []) there
+one_made g {regs} {w} p t wires none =
+    let first : first_wire g ≡ w = ap first_of wires in
+    let there : p.span.first + p.index ≡ first_wire g = omega (arith, p.reached, first) in
+    ap (λ k. expansion (word_facts g).known k 0 0) there ∙ (word_facts g).made 0 0 (λ one. absurd (omega (arith, none, one)))
 
-x_made : (regs : List RegisterView) (w : ℕ) (p : IsPlace 0 regs w) (t : TokenView) → gates_of words.X (argument_of p t ∷ []) ≡ X w ∷ []
+two_made : (g : Gate) {regs : List RegisterView} {v w : ℕ} (p : IsPlace 0 regs v) (q : IsPlace 0 regs w) (s t : TokenView) → wires_of g ≡ v ∷ w ∷ []
+    → gates_of (word_facts g).known (argument_of p s ∷ argument_of q t ∷ []) ≡ g ∷ []
 unfolding gates_of
-x_made regs w p t = let there : p.span.first + p.index ≡ w = omega (arith, p.reached) in ap (λ k. X k ∷ []) there
+two_made g {regs} {v} {w} p q s t wires =
+    let first : first_wire g ≡ v = ap first_of wires in
+    let last : last_wire g ≡ w = ap last_of wires in
+    let here : p.span.first + p.index ≡ first_wire g = omega (arith, p.reached, first) in
+    let there : q.span.first + q.index ≡ last_wire g = omega (arith, q.reached, last) in
+    (λ i. expansion (word_facts g).known (here i) (there i) 0) ∙ (word_facts g).made (last_wire g) 0 (λ one. refl)
 
-phase_made : (e : Eighths) (regs : List RegisterView) (w : ℕ) (p : IsPlace 0 regs w) (t : TokenView) → gates_of (words.Phase e) (argument_of p t ∷ []) ≡ Phase e w ∷ []
-unfolding gates_of
-phase_made e regs w p t = let there : p.span.first + p.index ≡ w = omega (arith, p.reached) in ap (λ k. Phase e k ∷ []) there
+module _ (options : Options) (E : Env) (g : Gate) (front : List TokenView) (header : E.header ≡ true) (included : E.included ≡ true)
+    (none : E.program.tail ≡ []) (few : length E.program.gates < 1048576) (shaped : map shape_of front ≡ gate_shapes E.program.qregs g) where
+  -- a gate on one wire
+  one_wire : (w : ℕ) → IsPlace 0 E.program.qregs w → wires_of g ≡ w ∷ [] → after options E front ≡ Ok (with_gates E (E.program.gates ++ g ∷ []))
+  one_wire w p wires =
+      let facts = word_facts g in
+      let spots = λ (k : ℕ). nth front (suc k) in
+      let no_more : more_arguments facts.known ≡ 0 = omega (arith, facts.more, ap length wires) in
+      let shapes : gate_shapes E.program.qregs g ≡ shape Word (gate_word g) ∷ one_place p =
+      ap (λ ws. statement_shapes (gate_word g) (map (place_shapes E.program.qregs) ws)) wires
+      ∙ ap (λ ss. shape Word (gate_word g) ∷ ss ++ semicolon ∷ []) p.written in
+      ap (after options E) (is_placed (shape Word (gate_word g) ∷ one_place p) front (shaped ∙ shapes))
+      ∙ gate_read options E (gate_word g) facts.known (nth front 0) (placed (one_place p) spots) (E.program.gates ++ g ∷ []) header included none facts.named
+      (one_read facts.known E.program.qregs E.program.gates (g ∷ []) w p spots no_more (one_made g p (spots 0) wires no_more) (one_more E.program.gates few))
 
-cx_made : (regs : List RegisterView) (v w : ℕ) (p : IsPlace 0 regs v) (q : IsPlace 0 regs w) (s t : TokenView)
-    → gates_of words.Cx (argument_of p s ∷ argument_of q t ∷ []) ≡ Cx v w ∷ []
-unfolding gates_of
-cx_made regs v w p q s t =
-    let control : p.span.first + p.index ≡ v = omega (arith, p.reached) in
-    let target : q.span.first + q.index ≡ w = omega (arith, q.reached) in
-    λ i. Cx (control i) (target i) ∷ []
-
-two_wires : (options : Options) (E : Env) (front : List TokenView) (v w : ℕ) (p : IsPlace 0 E.program.qregs v) (q : IsPlace 0 E.program.qregs w)
-    → E.header ≡ true → E.included ≡ true → E.program.tail ≡ [] → length E.program.gates < 1048576 → v ≢ w
-    → map shape_of front ≡ gate_shapes E.program.qregs (Cx v w) → after options E front ≡ Ok (with_gates E (E.program.gates ++ Cx v w ∷ []))
-two_wires options E front v w p q header included none few unlike shaped =
-    let spots = λ (k : ℕ). nth front (suc k) in
-    let apart : eqb (q.span.first + q.index) (p.span.first + p.index) ≡ false =
-    untrue (eqb (q.span.first + q.index) (p.span.first + p.index)) (λ yes. unlike (let same : q.span.first + q.index ≡ p.span.first + p.index = eqb-true _ _ yes in omega (arith, p.reached, q.reached))) in
-    ap (after options E) (is_placed (shape Word (codes "cx") ∷ two_places p q) front (shaped ∙ (λ i. shape Word (codes "cx") ∷ (p.written i ++ (comma ∷ q.written i)) ++ semicolon ∷ [])))
-    ∙ gate_read options E (codes "cx") words.Cx (nth front 0) (placed (two_places p q) spots) (E.program.gates ++ Cx v w ∷ []) header included none refl
-    (two_read words.Cx E.program.qregs E.program.gates (Cx v w ∷ []) v w p q spots refl apart (cx_made E.program.qregs v w p q (spots 0) (spots 5)) (one_more E.program.gates few))
+  -- a gate on two wires
+  two_wires : (v w : ℕ) → IsPlace 0 E.program.qregs v → IsPlace 0 E.program.qregs w → wires_of g ≡ v ∷ w ∷ [] → v ≢ w
+      → after options E front ≡ Ok (with_gates E (E.program.gates ++ g ∷ []))
+  two_wires v w p q wires unlike =
+      let facts = word_facts g in
+      let spots = λ (k : ℕ). nth front (suc k) in
+      let one_more_argument : more_arguments facts.known ≡ 1 = omega (arith, facts.more, ap length wires) in
+      let apart : eqb (q.span.first + q.index) (p.span.first + p.index) ≡ false =
+      untrue (eqb (q.span.first + q.index) (p.span.first + p.index)) (λ yes. unlike (let same : q.span.first + q.index ≡ p.span.first + p.index = eqb-true _ _ yes in omega (arith, p.reached, q.reached))) in
+      let shapes : gate_shapes E.program.qregs g ≡ shape Word (gate_word g) ∷ two_places p q =
+      ap (λ ws. statement_shapes (gate_word g) (map (place_shapes E.program.qregs) ws)) wires
+      ∙ (λ i. shape Word (gate_word g) ∷ (p.written i ++ (comma ∷ q.written i)) ++ semicolon ∷ []) in
+      ap (after options E) (is_placed (shape Word (gate_word g) ∷ two_places p q) front (shaped ∙ shapes))
+      ∙ gate_read options E (gate_word g) facts.known (nth front 0) (placed (two_places p q) spots) (E.program.gates ++ g ∷ []) header included none facts.named
+      (two_read facts.known E.program.qregs E.program.gates (g ∷ []) v w p q spots one_more_argument apart (two_made g p q (spots 0) (spots 5) wires) (one_more E.program.gates few))
 
 -- After the line of a gate on the wires the gate is the last one.
 pub after_gate : (options : Options) (E : Env) (g : Gate) (front : List TokenView) → E.header ≡ true → E.included ≡ true → E.program.tail ≡ []
     → All IsRegister E.program.qregs → AllPairs (λ q r. q.name ≢ r.name) E.program.qregs → places_of E.program.qregs ≤ 4096
     → IsOnWires (places_of E.program.qregs) g → length E.program.gates < 1048576 → map shape_of front ≡ gate_shapes E.program.qregs g
     → after options E front ≡ Ok (with_gates E (E.program.gates ++ g ∷ []))
-after_gate options E (H w) front header included none each apart wires on few shaped =
-    let p = place_from 0 E.program.qregs w each apart wires on in
-    one_wire options E (H w) front (codes "h") words.H w p header included none few refl refl (h_made E.program.qregs w p) shaped
-after_gate options E (X w) front header included none each apart wires on few shaped =
-    let p = place_from 0 E.program.qregs w each apart wires on in
-    one_wire options E (X w) front (codes "x") words.X w p header included none few refl refl (x_made E.program.qregs w p) shaped
-after_gate options E (Phase e w) front header included none each apart wires on few shaped =
-    let p = place_from 0 E.program.qregs w each apart wires on in
-    one_wire options E (Phase e w) front (phase_word e) (words.Phase e) w p header included none few (phase_known e) refl (phase_made e E.program.qregs w p) shaped
-after_gate options E (Cx v w) front header included none each apart wires on few shaped =
-    two_wires options E front v w (place_from 0 E.program.qregs v each apart wires on.0) (place_from 0 E.program.qregs w each apart wires on.1)
-    header included none few on.2 shaped
+after_gate options E g front header included none each apart few_places on few shaped = by (gate_facts g).ports (gate_facts g).listed
+  where
+    by : (ports : Ports) → listed_ports ports ≡ ports_of g → after options E front ≡ Ok (with_gates E (E.program.gates ++ g ∷ []))
+    by (One only) listed =
+        let wires : wires_of g ≡ only.wire ∷ [] = sym (ap (map (λ p. p.wire)) listed) in
+        let inside : AreOn (places_of E.program.qregs) (only.wire ∷ []) = subst (AreOn (places_of E.program.qregs)) wires on in
+        one_wire options E g front header included none few shaped only.wire (place_from 0 E.program.qregs only.wire each apart few_places inside) wires
+    by (Two first last) listed =
+        let wires : wires_of g ≡ first.wire ∷ last.wire ∷ [] = sym (ap (map (λ p. p.wire)) listed) in
+        let inside : AreOn (places_of E.program.qregs) (first.wire ∷ last.wire ∷ []) = subst (AreOn (places_of E.program.qregs)) wires on in
+        two_wires options E g front header included none few shaped first.wire last.wire (place_from 0 E.program.qregs first.wire each apart few_places inside.0)
+        (place_from 0 E.program.qregs last.wire each apart few_places inside.1) wires inside.2

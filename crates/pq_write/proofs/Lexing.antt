@@ -9,17 +9,14 @@ use Rattle.std.proofs.lemmas.List.Elements.{recursion_from_All}
 use Rattle.pq_lex.specs.declared.token.Form.TheVariants.{Number, Quoted, LeftBracket, RightBracket}
 use Rattle.pq_lex.specs.Front.{is_word_byte, front}
 use Rattle.pq_lex.specs.Lex.{lex, tokens, tokens_of}
-use Rattle.pq_gate.specs.declared.gate.Gate.{Gate}
-use Rattle.pq_gate.specs.declared.gate.Gate.TheVariants.{H, X, Phase, Cx}
-use Rattle.pq_gate.specs.declared.gate.Eighths.{Eighths}
-use Rattle.pq_gate.specs.declared.gate.Eighths.TheVariants.{T, S, Z, Sdg, Tdg}
 use Rattle.pq_gate.specs.Ports.{wires_of}
 use Rattle.pq_text.specs.Name.{IsNameByte, IsLawfulName}
 use Rattle.pq_text.specs.Program.{RegisterView, TailView, Barrier, Measure, ProgramView, places_of}
 use Rattle.pq_text.specs.WellFormed.{IsRegister, WellFormed}
-use Rattle.pq_text.specs.Print.{header, indexed, place, register_line, statement, phase_word, gate_word, gate_line, tail_line, print}
+use Rattle.pq_text.specs.Print.{header, indexed, place, register_line, statement, gate_word, gate_line, tail_line, print}
 use Rattle.pq_write.proofs.Shapes.{Shape, shape, shape_of, comma, semicolon, arrow, missing, header_shapes, include_shapes, indexed_shapes, place_shapes, register_shapes, joined_shapes, statement_shapes, gate_shapes, tail_shapes, program_shapes, position, LexedAt, Lexes}
 use Rattle.pq_write.proofs.LexingTokens.{IsWord, nothing, then_more, both, either, one_token, no_blank, space, comma_alone, left_bracket, right_bracket, arrow_alone, end_of_line, word_then, word_space, number_then}
+use Rattle.pq_write.proofs.WordFacts.{word_facts}
 
 -- a register whose line and whose places are written as tokens
 pub record IsSpelled (r : RegisterView) : Type 0 where
@@ -83,19 +80,6 @@ registers_lex word [] is all = nothing
 registers_lex word (r ∷ rs) is all =
     both (register_line word r) (flat_map (register_line word) rs) (register_shapes word r) (flat_map (register_shapes word) rs) (register_lexes word r is all.0) (registers_lex word rs is all.1)
 
-phase_is_word : (e : Eighths) → IsWord (phase_word e)
-phase_is_word T = (refl, refl)
-phase_is_word S = (refl, refl)
-phase_is_word Z = (refl, refl)
-phase_is_word Sdg = (refl, refl)
-phase_is_word Tdg = (refl, refl)
-
-gate_is_word : (g : Gate) → IsWord (gate_word g)
-gate_is_word (H wire) = (refl, refl)
-gate_is_word (X wire) = (refl, refl)
-gate_is_word (Phase eighths wire) = phase_is_word eighths
-gate_is_word (Cx control target) = (refl, refl)
-
 lines_lex : {A : Type 0} (f : A → List ℕ) (g : A → List Shape) (xs : List A) → ((x : A) → Lexes (f x) (g x)) → Lexes (flat_map f xs) (flat_map g xs)
 lines_lex f g [] each = nothing
 lines_lex f g (x ∷ xs) each = both (f x) (flat_map f xs) (g x) (flat_map g xs) (each x) (lines_lex f g xs each)
@@ -146,7 +130,7 @@ registers_spelled (r ∷ rs) all limit =
 text_lexes : (p : ProgramView) → AllByRecursion IsSpelled p.qregs → AllByRecursion IsSpelled p.cregs → Lexes (print p) (program_shapes p)
 text_lexes p wires bits =
     let gates : Lexes (flat_map (gate_line p.qregs) p.gates) (flat_map (gate_shapes p.qregs) p.gates) =
-    lines_lex (gate_line p.qregs) (gate_shapes p.qregs) p.gates (λ g. statement_lexes (gate_word g) p.qregs (wires_of g) (gate_is_word g) wires) in
+    lines_lex (gate_line p.qregs) (gate_shapes p.qregs) p.gates (λ g. statement_lexes (gate_word g) p.qregs (wires_of g) (word_facts g).lexed wires) in
     let tail : Lexes (flat_map (tail_line p.qregs p.cregs) p.tail) (flat_map (tail_shapes p.qregs p.cregs) p.tail) =
     lines_lex (tail_line p.qregs p.cregs) (tail_shapes p.qregs p.cregs) p.tail (tail_lexes p.qregs p.cregs wires bits) in
     both header _ (header_shapes ++ include_shapes) _ head

@@ -1,6 +1,7 @@
 pub mod Shapes
 pub mod Steps
 pub mod LexingTokens
+pub mod WordFacts
 pub mod Lexing
 pub mod Arguments
 pub mod GateLines

@@ -16,8 +16,6 @@ use borrow.Author.Tests.{le-ltb}
 use Rattle.pq_lex.specs.declared.token.Form.TheVariants.{Word, Number, RightBracket}
 use Rattle.pq_lex.specs.Token.{TokenView}
 use Rattle.pq_gate.specs.declared.gate.Gate.{Gate}
-use Rattle.pq_gate.specs.declared.gate.Gate.TheVariants as gates
-use Rattle.pq_gate.specs.declared.gate.Eighths.TheVariants.{T, S, Z, Sdg, Tdg}
 use Rattle.pq_gate.specs.Ports.{wires_of}
 use Rattle.pq_text.specs.Program.{RegisterView, TailView, Barrier, Measure, ProgramView, places_of}
 use Rattle.pq_text.specs.Print.{gate_word}
@@ -37,6 +35,7 @@ use Rattle.pq_read.proofs.Sizes.{size_fits}
 use Rattle.pq_write.proofs.Shapes.{Shape, shape, comma, semicolon, arrow, header_shapes, include_shapes, indexed_shapes, place_shapes, register_shapes, joined_shapes, statement_shapes, gate_shapes, tail_shapes}
 use Rattle.pq_write.proofs.Steps.{Steps}
 use Rattle.pq_write.proofs.Frame.{IsInner, IsLine, ends_after, steps_by, placed, Placed, placed_all}
+use Rattle.pq_write.proofs.WordFacts.{word_facts}
 
 -- what has been read after the header, and after the include
 abbrev pub begun : Env
@@ -159,19 +158,8 @@ statement_line : (word : List ℕ) (regs : List RegisterView) (ns : List ℕ) �
 statement_line word regs ns other =
     record { ends = ends_after (shape Word word ∷ joined_shapes (map (place_shapes regs) ns)) (refl, inner_places regs ns); other = other }
 
--- no gate is written with the word `gate`
-other_word : (g : Gate) → bytes_eq (codes "gate") (gate_word g) ≡ false
-other_word (gates.H wire) = refl
-other_word (gates.X wire) = refl
-other_word (gates.Phase T wire) = refl
-other_word (gates.Phase S wire) = refl
-other_word (gates.Phase Z wire) = refl
-other_word (gates.Phase Sdg wire) = refl
-other_word (gates.Phase Tdg wire) = refl
-other_word (gates.Cx control target) = refl
-
 pub gate_is_line : (qregs : List RegisterView) (g : Gate) → IsLine (gate_shapes qregs g)
-gate_is_line qregs g = statement_line (gate_word g) qregs (wires_of g) (other_word g)
+gate_is_line qregs g = statement_line (gate_word g) qregs (wires_of g) (word_facts g).other
 
 pub tail_is_line : (qregs cregs : List RegisterView) (t : TailView) → IsLine (tail_shapes qregs cregs t)
 tail_is_line qregs cregs (Barrier wires) = statement_line (codes "barrier") qregs wires refl

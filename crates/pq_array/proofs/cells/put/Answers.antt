@@ -13,8 +13,8 @@ copied_is items i (Some item) is = sym (slice_get_read items (length items) i it
 
 pub loop-number-preserved : goal.loop-number-preserved
 loop-number-preserved c =
-    let cell : c.copied.result ≡ slice_get c.args.output.now c.loop-number.number =
-    c.copied.ensures ∙ copied_is c.args.output.now c.loop-number.number c.get.result c.get.ensures.lookup in
+    let cell : c.of.result ≡ slice_get c.args.output.now c.loop-number.number =
+    c.of.ensures ∙ c.copied.ensures ∙ copied_is c.args.output.now c.loop-number.number c.get.result c.get.ensures.lookup in
     let next : c.loop-number.number + 1 ≡ suc c.loop-number.number = omega arith in
     rw (next, cell) (replaced_more c.loop-number.cells c.args.places.now c.args.output.now c.loop-number.number c.loop-number-test.true ∙ c.loop-number.invariant)
 

@@ -1,7 +1,7 @@
 use Rattle.std.proofs.Common.{◌+◌, ◌*◌, max}
 use Rattle.pq_round.proofs.workers.+workers.Given as goal
 
--- the threads, and one step less for each call between a crew and its parts
+-- the threads, and one step less for each call between workers and their two parts
 abbrev pub decreases-work_by : goal.decreases-work_by
 decreases-work_by g l = 4 * l.threads
 

@@ -7,11 +7,11 @@ use Rattle.pq_round.proofs.workers.work_alone.Given as goal
 -- the pass has a right still, and its whole stake, and has done what the results say
 abbrev pub invariant-jobs : goal.invariant-jobs
 invariant-jobs g l = record {
-  belongs : BelongsTo l.shop.board.now l.pass;
+  belongs : BelongsTo l.context.board.now l.pass;
   right : 1 ≤ l.pass.view.rights;
-  staked : stake l.shop.board.now.plan l.pass.view ≡ stake l.shop.board.now.plan l.fn.pass.view;
-  done : HasDone l.shop.cells.now l.shop.rules.now l.pass.view l.results.items;
+  staked : stake l.context.board.now.plan l.pass.view ≡ stake l.context.board.now.plan l.fn.pass.view;
+  done : HasDone l.context.cells.now l.context.rules.now l.pass.view l.results.items;
 }
 
 abbrev pub decreases-jobs : goal.decreases-jobs
-decreases-jobs g l = length l.shop.board.now.plan.jobs - next_of l.pass.view.tickets
+decreases-jobs g l = length l.context.board.now.plan.jobs - next_of l.pass.view.tickets

@@ -11,6 +11,3 @@ pub added-requires-clause-second : goal.added-requires-clause-second
 added-requires-clause-second c =
     subst (λ (r : Ring). IsWithin 32768 r) (sym c.turned_where.ensures)
     (IsWithin-turned_if c.has_bit.result 4 (IsWithin-more 32768 (c.requires.rest c.with_bit-in-H.result c.with_bit-in-H.ensures.number) (omega arith)))
-
-pub turned_where-requires-in-Phase : goal.turned_where-requires-in-Phase
-turned_where-requires-in-Phase c = IsWithin-more 32768 (c.requires.rest c.args.from c.requires.from) (omega arith)

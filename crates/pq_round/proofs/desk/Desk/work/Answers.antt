@@ -9,20 +9,36 @@ use Rattle.pq_round.proofs.desk.Desk.work.Goals.{in-Some, in_default}
 pub loop-place-preserved : goal.loop-place-preserved
 loop-place-preserved c = elim c.match-gate_at.branch [
   | in-Some w ↦
-      let at : get_or c.args.array.now (get_or c.args.places.now c.loop-place.place-index 0) None ≡ Some w.in-Some.gate = sym c.gate_at.ensures ∙ w.in-Some.is in
+      let at : get_or c.args.cells.now (get_or c.args.places.now c.loop-place.place-index 0) None ≡ Some w.in-Some.gate = sym c.gate_at.ensures ∙ w.in-Some.is in
       let below : c.loop-place.place-index < length c.args.places.now = omega arith in
-      let more : gates_at c.args.array.now (take (c.loop-place.place-index + 1) c.args.places.now)
-      ≡ gates_at c.args.array.now (take c.loop-place.place-index c.args.places.now) ++ w.in-Some.gate ∷ [] =
-      gates_more_some c.args.array.now c.args.places.now c.loop-place.place-index w.in-Some.gate below at in
+      let more : gates_at c.args.cells.now (take (c.loop-place.place-index + 1) c.args.places.now)
+      ≡ gates_at c.args.cells.now (take c.loop-place.place-index c.args.places.now) ++ w.in-Some.gate ∷ [] =
+      gates_more_some c.args.cells.now c.args.places.now c.loop-place.place-index w.in-Some.gate below at in
       let one : length (c.loop-place.input.items ++ w.in-Some.gate ∷ []) ≡ length c.loop-place.input.items + 1 = length_push c.loop-place.input.items w.in-Some.gate in
       let longer : length c.match-gate_at.input.items ≡ length c.loop-place.input.items + 1 = cc in
-      record { gathered = cc; same = cc; input_room = cc; seg_room = cc; few = omega (arith, longer, c.loop-place.invariant.few) }
+      let room : c.match-gate_at.input.room ≡ c.loop-place.input.room = cc in
+      let seg_room : c.match-gate_at.seg.room ≡ c.loop-place.seg.room = cc in
+      record {
+        gathered = cc;
+        same = cc;
+        input_room = omega (arith, room, c.loop-place.invariant.input_room);
+        seg_room = omega (arith, seg_room, c.loop-place.invariant.seg_room);
+        few = omega (arith, longer, c.loop-place.invariant.few);
+      }
   | in_default w ↦
-      let at : get_or c.args.array.now (get_or c.args.places.now c.loop-place.place-index 0) None ≡ None = sym c.gate_at.ensures ∙ w.in_default.is in
+      let at : get_or c.args.cells.now (get_or c.args.places.now c.loop-place.place-index 0) None ≡ None = sym c.gate_at.ensures ∙ w.in_default.is in
       let below : c.loop-place.place-index < length c.args.places.now = omega arith in
-      let more : gates_at c.args.array.now (take (c.loop-place.place-index + 1) c.args.places.now)
-      ≡ gates_at c.args.array.now (take c.loop-place.place-index c.args.places.now) =
-      gates_more_none c.args.array.now c.args.places.now c.loop-place.place-index below at in
+      let more : gates_at c.args.cells.now (take (c.loop-place.place-index + 1) c.args.places.now)
+      ≡ gates_at c.args.cells.now (take c.loop-place.place-index c.args.places.now) =
+      gates_more_none c.args.cells.now c.args.places.now c.loop-place.place-index below at in
       let longer : length c.match-gate_at.input.items ≡ length c.loop-place.input.items = cc in
-      record { gathered = cc; same = cc; input_room = cc; seg_room = cc; few = omega (arith, longer, c.loop-place.invariant.few) }
+      let room : c.match-gate_at.input.room ≡ c.loop-place.input.room = cc in
+      let seg_room : c.match-gate_at.seg.room ≡ c.loop-place.seg.room = cc in
+      record {
+        gathered = cc;
+        same = cc;
+        input_room = omega (arith, room, c.loop-place.invariant.input_room);
+        seg_room = omega (arith, seg_room, c.loop-place.invariant.seg_room);
+        few = omega (arith, longer, c.loop-place.invariant.few);
+      }
 ]

@@ -4,9 +4,9 @@ use Rattle.pq_round.proofs.desk.Desk.work.Given as goal
 
 abbrev pub invariant-loop-place : goal.invariant-loop-place
 invariant-loop-place l = record {
-  gathered : l.input.items ≡ gates_at l.array (take l.place-index l.places);
+  gathered : l.input.items ≡ gates_at l.cells (take l.place-index l.places);
   same : l.seg.items ≡ l.input.items;
-  input_room : l.input.room ≡ length l.places;
-  seg_room : l.seg.room ≡ length l.places;
+  input_room : length l.places ≤ l.input.room;
+  seg_room : length l.places ≤ l.seg.room;
   few : length l.input.items ≤ l.place-index;
 }
