@@ -42,3 +42,4 @@ pub mod RunsAround
 pub mod Exchanging
 pub mod Keeping
 pub mod Placed
+pub mod Working

@@ -6,18 +6,20 @@ mod exchange;
 pub mod laws;
 mod looked;
 mod redex;
-mod runs;
 mod rewrite;
 #[cfg(test)]
 mod rewriting_tests;
+mod runs;
 mod search;
 mod seek;
 mod segment;
+mod slots;
 mod spread;
 mod starts;
 #[cfg(test)]
 mod tests;
 mod tried;
+mod work;
 
 pub use redex::Redex;
 pub use search::find_within;
