@@ -1,4 +1,4 @@
-ghost use Rattle.std.specs.Prelude.{◌≡◌};
+ghost use Rattle.std.specs.Prelude.{◌≡◌, ◌≤◌, []};
 ghost use Rattle.pq_oracle.specs.Ora.{Ora};
 ghost use Rattle.pq_oracle.specs.Outcomes.{WorkedView};
 
@@ -10,12 +10,13 @@ use pq_rules::Rules;
 use std::marker::Model;
 
 /// A segment that was worked: its ticket, the gates that went in, and the oracle's answer to them under the
-/// rules. That the answer is the oracle's is kept by the type.
+/// rules. That the answer is the oracle's is kept by the type. It has the gates alone, and nothing else of the
+/// segment.
 #[derive(Drop)]
 pub struct Worked<'r> {
     ticket: u64,
     input: GateList,
-    seg: Seg,
+    output: GateList,
     outcome: Outcome,
     rules: &'r Rules,
 }
@@ -26,13 +27,13 @@ impl<'r> Model for Worked<'r> {
 
     ghost Value = { WorkedView };
 
-    ghost view = { λ a. record { ticket = a.ticket; input = a.input.items; answer = answer_of a.seg.items a.outcome; rules = a.rules.now } };
+    ghost view = { λ a. record { ticket = a.ticket; input = a.input.items; answer = answer_of a.output.items a.outcome; rules = a.rules.now } };
 
-    ghost invariant = { λ a. Ora a.rules.now a.input.items (answer_of a.seg.items a.outcome) };
+    ghost invariant = { λ a. Ora a.rules.now a.input.items (answer_of a.output.items a.outcome) };
 }
 
 impl<'r> Worked<'r> {
-    /// Works the segment, whose gates are those of `input`. It takes no memory.
+    /// Works the segment, whose gates are those of `input`, and lets go what isn't kept of it. It takes no memory.
     pub fn of(rules: &'r Rules, ticket: u64, input: GateList, seg: Seg) -> Worked<'r>
         requires { seg.items ≡ input.items }
         ensures ticket { result.ticket ≡ ticket }
@@ -45,7 +46,36 @@ impl<'r> Worked<'r> {
         Worked {
             ticket,
             input,
-            seg,
+            output: seg.into_gates(),
+            outcome,
+            rules,
+        }
+    }
+
+    /// Works the segment, whose gates are those of `input`, and leaves it empty for the next ones: the output is moved out
+    /// of it, and the empty list `room`, which has at least the segment's room, takes its place. It takes no memory.
+    pub fn of_lent(
+        rules: &'r Rules,
+        ticket: u64,
+        input: GateList,
+        seg: &mut Seg,
+        room: GateList,
+    ) -> Worked<'r>
+        requires gates { seg.old.items ≡ input.items }
+        requires empty { room.items ≡ [] }
+        requires enough { seg.old.room ≤ room.room }
+        ensures ticket { result.ticket ≡ ticket }
+        ensures input { result.input ≡ input.items }
+        ensures rules { result.rules ≡ rules.entry.now }
+        ensures oracle { Ora result.rules result.input result.answer }
+        ensures emptied { seg.new.items ≡ [] }
+        ensures room { seg.new.room ≡ seg.old.room }
+    {
+        let outcome = improve(rules, seg);
+        Worked {
+            ticket,
+            input,
+            output: seg.take_gates(room),
             outcome,
             rules,
         }
@@ -70,7 +100,7 @@ impl<'r> Worked<'r> {
         ensures output { result.now ≡ self.now.answer.gates }
         ensures oracle { Ora self.now.rules self.now.input self.now.answer }
     {
-        self.seg.gates()
+        self.output.as_slice()
     }
 
     /// Whether there was a redex.
