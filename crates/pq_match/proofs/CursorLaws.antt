@@ -1,15 +1,17 @@
 -- Cursors on the wires of the chosen gates.
-use Rattle.std.proofs.Common.{◌≡◌, ◌≢◌, ℕ, ◌+◌, ◌-◌, ◌<◌, ◌≤◌, Bool, true, false, List, length, get_or, set, sym, ap, subst, ◌∙◌, arith, inl, inr, ◌⊎◌}
+use Rattle.std.proofs.Common.{◌≡◌, ◌≢◌, ℕ, ◌+◌, ◌-◌, ◌<◌, ◌≤◌, Bool, true, false, List, length, get_or, set, min, sym, ap, subst, ◌∙◌, arith, inl, inr, ◌⊎◌}
 use Rattle.std.proofs.lemmas.Bool.{cases_order}
 use Rattle.pq_gate.specs.declared.gate.Gate.{Gate}
 use Rattle.pq_gate.specs.Circuit.{IsCircuit}
 use Rattle.pq_gate.specs.Commuting.{Touches}
 use Rattle.pq_links.specs.Wires.{wire_of}
-use Rattle.pq_links.specs.Links.{IsNextOn}
+use Rattle.pq_links.specs.Links.{far, IsNextOn}
+use Rattle.pq_links.specs.Slots.{no_wire}
+use Rattle.pq_match.specs.declared.looked.Looked.{Looked}
 use Rattle.pq_match.specs.declared.cursors.Cursors.{Cursors}
 use Rattle.pq_match.specs.Redex.{gate_at}
-use Rattle.pq_match.specs.Search.{AreApart, AreAlike, IsFitting, IsGrown, AreEight}
-use Rattle.pq_match.specs.Seek.{IsTaken, AreCursors, AreAhead, HaveMovedOn, AreLedTo}
+use Rattle.pq_match.specs.Search.{AreApart, AreAlike, IsFitting, AreEight}
+use Rattle.pq_match.specs.Seek.{IsTaken, IsAtCursor, IsKnownAt, AreLookedAt, AreCursors, AreAhead, HaveMovedOn, AreLedTo}
 use Rattle.pq_match.proofs.Growing.{put_at, put_before}
 use Rattle.pq_match.proofs.SearchGates.{wire_below, gate_on_wires}
 use Rattle.pq_match.proofs.SearchTouches.{touched}
@@ -34,6 +36,7 @@ module _ {gates pattern : List Gate} {places : List ℕ} {count from : ℕ} {cur
   cursors_on place ahead upto = record {
     taken = are.taken;
     leads = are.leads;
+    used = are.used;
     next = λ s one below. record {
       ahead = ahead (wire_of one (gate_at pattern s)) (pattern_wire pattern on s one (omega arith));
       uses = (are.next s one below).uses;
@@ -42,41 +45,87 @@ module _ {gates pattern : List Gate} {places : List ℕ} {count from : ℕ} {cur
     };
   }
 
-  pub cursors_moved : {new : Cursors} → AreAhead from cursors → from < length gates → HaveMovedOn gates from cursors new → AreCursors gates pattern places count (from + 1) new
-  cursors_moved {new} ahead inside moved = record {
-    taken = are.taken;
-    leads = λ s one below. ap (λ (xs : List ℕ). get_or xs (wire_of one (gate_at pattern s)) 0) moved.wires ∙ are.leads s one below;
-    next = λ s one below. next_of s one below (cases_order (get_or cursors.next (wire_of one (gate_at pattern s)) 0) from);
-  }
-    where
-      next_of : (s : ℕ) (one : Bool) → s < count →
-          (get_or cursors.next (wire_of one (gate_at pattern s)) 0 ≡ from) ⊎ ((get_or cursors.next (wire_of one (gate_at pattern s)) 0 < from) ⊎ (from < get_or cursors.next (wire_of one (gate_at pattern s)) 0)) →
-          IsNextOn gates (wire_of one (gate_at gates (get_or places s 0))) (from + 1) (get_or new.next (wire_of one (gate_at pattern s)) 0)
-      next_of s one below (inl same) =
-          subst (λ (w : ℕ). IsNextOn gates w (from + 1) (get_or new.next (wire_of one (gate_at pattern s)) 0)) (are.leads s one below)
-          (moved.next (wire_of one (gate_at pattern s)) (pattern_wire pattern on s one (omega arith)) same
-          (λ none. are.taken s below one (sym (are.leads s one below) ∙ none))
-          (subst (Touches (gate_at gates from)) (sym (are.leads s one below))
-          (subst (λ (p : ℕ). Touches (gate_at gates p) (wire_of one (gate_at gates (get_or places s 0)))) same ((are.next s one below).uses (subst (λ (p : ℕ). p < length gates) (sym same) inside)))))
-      next_of s one below (inr (inl less)) =
-          (let least : from ≤ get_or cursors.next (wire_of one (gate_at pattern s)) 0 = ahead (wire_of one (gate_at pattern s)) (pattern_wire pattern on s one (omega arith)) in absurd (omega arith))
-      next_of s one below (inr (inr more)) =
-          subst (λ (c : ℕ). IsNextOn gates (wire_of one (gate_at gates (get_or places s 0))) (from + 1) c)
-          (sym (moved.others (wire_of one (gate_at pattern s)) (pattern_wire pattern on s one (omega arith)) (λ same. omega arith)))
-          (record {
-            ahead = omega arith;
-            uses = (are.next s one below).uses;
-            none = λ p above less inside. (are.next s one below).none p (omega arith) less inside;
-            past = (are.next s one below).past;
-          })
+  -- one that stands before the end is on the wire that it is led to
+  standing : (v : ℕ) → v < 3 → get_or cursors.next v 0 < length gates → (get_or cursors.wires v 0 ≢ no_wire) × Touches (gate_at gates (get_or cursors.next v 0)) (get_or cursors.wires v 0)
+  standing v below inside =
+      let used = are.used v below inside in
+      let leads = are.leads used.0 used.1 used.2 in
+      subst (λ (v : ℕ). (get_or cursors.wires v 0 ≢ no_wire) × Touches (gate_at gates (get_or cursors.next v 0)) (get_or cursors.wires v 0)) used.3 (
+        λ none. are.taken used.0 used.2 used.1 (sym leads ∙ none),
+        subst (Touches (gate_at gates (get_or cursors.next (wire_of used.1 (gate_at pattern used.0)) 0))) (sym leads)
+            ((are.next used.0 used.1 used.2).uses (subst (λ (v : ℕ). get_or cursors.next v 0 < length gates) (sym used.3) inside)),
+      )
 
-pub moved_ahead : {gates : List Gate} {place : ℕ} {old new : Cursors} → HaveMovedOn gates place old new → AreAhead place old → AreAhead (place + 1) new
-moved_ahead {gates} {place} {old} {new} moved ahead v below = by (cases_order (get_or old.next v 0) place)
-  where
-    by : (get_or old.next v 0 ≡ place) ⊎ ((get_or old.next v 0 < place) ⊎ (place < get_or old.next v 0)) → place + 1 ≤ get_or new.next v 0
-    by (inl same) = moved.ahead v below same
-    by (inr (inl less)) = (let least : place ≤ get_or old.next v 0 = ahead v below in absurd (omega arith))
-    by (inr (inr more)) = (let e : get_or new.next v 0 ≡ get_or old.next v 0 = moved.others v below (λ same. omega arith) in omega arith)
+  module _ {new : Cursors} (ahead : AreAhead from cursors) (inside : from < length gates) (moved : HaveMovedOn gates from cursors new) where
+    -- one that stood there goes on on its wire
+    goes_on : (v : ℕ) → v < 3 → get_or cursors.next v 0 ≡ from → IsNextOn gates (get_or cursors.wires v 0) (from + 1) (get_or new.next v 0)
+    goes_on v below same =
+        let is = standing v below (subst (λ (p : ℕ). p < length gates) (sym same) inside) in
+        moved.next v below same is.0 (subst (λ (p : ℕ). Touches (gate_at gates p) (get_or cursors.wires v 0)) same is.1)
+
+    pub moved_ahead : AreAhead (from + 1) new
+    moved_ahead v below = by (cases_order (get_or cursors.next v 0) from)
+      where
+        by : (get_or cursors.next v 0 ≡ from) ⊎ ((get_or cursors.next v 0 < from) ⊎ (from < get_or cursors.next v 0)) → from + 1 ≤ get_or new.next v 0
+        by (inl same) = (goes_on v below same).ahead
+        by (inr (inl less)) = (let least : from ≤ get_or cursors.next v 0 = ahead v below in absurd (omega arith))
+        by (inr (inr more)) = (let e : get_or new.next v 0 ≡ get_or cursors.next v 0 = moved.others v below (λ same. omega arith) in omega arith)
+
+    pub cursors_moved : AreCursors gates pattern places count (from + 1) new
+    cursors_moved = record {
+      taken = are.taken;
+      leads = λ s one below. ap (λ (xs : List ℕ). get_or xs (wire_of one (gate_at pattern s)) 0) moved.wires ∙ are.leads s one below;
+      next = λ s one below. next_of s one below (cases_order (get_or cursors.next (wire_of one (gate_at pattern s)) 0) from);
+      used = λ v below stands. used_of v below stands (cases_order (get_or cursors.next v 0) from);
+    }
+      where
+        used_of : (v : ℕ) → v < 3 → get_or new.next v 0 < length gates → (get_or cursors.next v 0 ≡ from) ⊎ ((get_or cursors.next v 0 < from) ⊎ (from < get_or cursors.next v 0)) →
+            (s : ℕ) × (one : Bool) × (s < count) × (wire_of one (gate_at pattern s) ≡ v)
+        used_of v below stands (inl same) = are.used v below (omega arith)
+        used_of v below stands (inr (inl less)) = are.used v below (omega arith)
+        used_of v below stands (inr (inr more)) =
+            are.used v below (let e : get_or new.next v 0 ≡ get_or cursors.next v 0 = moved.others v below (λ same. omega arith) in omega arith)
+
+        next_of : (s : ℕ) (one : Bool) → s < count →
+            (get_or cursors.next (wire_of one (gate_at pattern s)) 0 ≡ from) ⊎ ((get_or cursors.next (wire_of one (gate_at pattern s)) 0 < from) ⊎ (from < get_or cursors.next (wire_of one (gate_at pattern s)) 0)) →
+            IsNextOn gates (wire_of one (gate_at gates (get_or places s 0))) (from + 1) (get_or new.next (wire_of one (gate_at pattern s)) 0)
+        next_of s one below (inl same) =
+            subst (λ (w : ℕ). IsNextOn gates w (from + 1) (get_or new.next (wire_of one (gate_at pattern s)) 0)) (are.leads s one below)
+            (goes_on (wire_of one (gate_at pattern s)) (pattern_wire pattern on s one (omega arith)) same)
+        next_of s one below (inr (inl less)) =
+            (let least : from ≤ get_or cursors.next (wire_of one (gate_at pattern s)) 0 = ahead (wire_of one (gate_at pattern s)) (pattern_wire pattern on s one (omega arith)) in absurd (omega arith))
+        next_of s one below (inr (inr more)) =
+            subst (λ (c : ℕ). IsNextOn gates (wire_of one (gate_at gates (get_or places s 0))) (from + 1) c)
+            (sym (moved.others (wire_of one (gate_at pattern s)) (pattern_wire pattern on s one (omega arith)) (λ same. omega arith)))
+            (record {
+              ahead = omega arith;
+              uses = (are.next s one below).uses;
+              none = λ p above less inside. (are.next s one below).none p (omega arith) less inside;
+              past = (are.next s one below).past;
+            })
+
+  -- where one of them stands the same gate stands in all slots that look alike
+  pub cursor_known : {looked : Looked} {place : ℕ} → AreLookedAt gates looked places count → IsAtCursor place cursors → get_or places 0 0 < place → place < length gates → place < looked.reach →
+      IsKnownAt gates (get_or places 0 0) looked place
+  cursor_known {looked} {place} looked_at stands behind inside near =
+      let used = are.used stands.0 stands.1 (subst (λ (p : ℕ). p < length gates) (sym stands.2) inside) in
+      let at : get_or cursors.next (wire_of used.1 (gate_at pattern used.0)) 0 ≡ place = ap (λ (v : ℕ). get_or cursors.next v 0) used.3 ∙ stands.2 in
+      let w = wire_of used.1 (gate_at gates (get_or places used.0 0)) in
+      let touches = (are.next used.0 used.1 used.2).uses (subst (λ (p : ℕ). p < length gates) (sym at) inside) in
+      record {
+        same = λ other slots alike.
+            alike.same place (wire_of used.1 (gate_at gates (get_or places used.0 0))) behind near (looked_at.marked used.0 used.1 used.2)
+            (inl (subst (λ (p : ℕ). Touches (gate_at gates p) (wire_of used.1 (gate_at gates (get_or places used.0 0)))) at touches));
+      }
+
+-- before a gate is chosen no cursor stands anywhere
+pub no_cursors : {gates pattern : List Gate} {places : List ℕ} {from : ℕ} {cursors : Cursors} → AreAhead far cursors → length gates < far → AreCursors gates pattern places 0 from cursors
+no_cursors {gates} {pattern} {places} {from} {cursors} ahead few = record {
+  taken = λ s below. absurd (omega arith);
+  leads = λ s one below. absurd (omega arith);
+  next = λ s one below. absurd (omega arith);
+  used = λ v below stands. absurd (let past : far ≤ get_or cursors.next v 0 = ahead v below in omega arith);
+}
 
 -- the gate at a place is chosen for the next gate of the pattern
 pub cursors_led : {gates pattern : List Gate} {places : List ℕ} {count place : ℕ} {old new : Cursors} → AreCursors gates pattern places count (place + 1) old →
@@ -86,6 +135,7 @@ cursors_led {gates} {pattern} {places} {count} {place} {old} {new} are is_taken 
   taken = λ s below. taken_at s below (cases_order s count);
   leads = λ s one below. (at s one below (cases_order s count)).0;
   next = λ s one below. (at s one below (cases_order s count)).1;
+  used = λ v below stands. used_at v below stands (cases_order v (wire_of false (gate_at pattern count))) (cases_order v (wire_of true (gate_at pattern count)));
 }
   where
     here : get_or (set places count place) count 0 ≡ place
@@ -135,6 +185,17 @@ cursors_led {gates} {pattern} {places} {count} {place} {old} {new} are is_taken 
       subst (λ (c : ℕ). IsNextOn gates (wire_of one (gate_at gates (get_or places s 0))) (place + 1) c) (sym (led.others (wire_of one (gate_at pattern s)) (apart not_first) (apart not_second))) (are.next s one below),
     )
 
+    used_at : (v : ℕ) → v < 3 → get_or new.next v 0 < length gates →
+        (v ≡ wire_of false (gate_at pattern count)) ⊎ ((v < wire_of false (gate_at pattern count)) ⊎ (wire_of false (gate_at pattern count) < v)) →
+        (v ≡ wire_of true (gate_at pattern count)) ⊎ ((v < wire_of true (gate_at pattern count)) ⊎ (wire_of true (gate_at pattern count) < v)) →
+        (s : ℕ) × (one : Bool) × (s < count + 1) × (wire_of one (gate_at pattern s) ≡ v)
+    used_at v below stands (inl first) _ = (count, false, omega arith, sym first)
+    used_at v below stands (inr not_first) (inl second) = (count, true, omega arith, sym second)
+    used_at v below stands (inr not_first) (inr not_second) =
+        let e : get_or new.next v 0 ≡ get_or old.next v 0 = led.others v (apart not_first) (apart not_second) in
+        let used = are.used v below (omega arith) in
+        (used.0, used.1, (let b : used.0 < count = used.2 in omega arith), used.3)
+
     at : (s : ℕ) (one : Bool) → s < count + 1 → (s ≡ count) ⊎ ((s < count) ⊎ (count < s)) →
         (get_or new.wires (wire_of one (gate_at pattern s)) 0 ≡ wire_of one (gate_at gates (get_or (set places count place) s 0))) ×
         IsNextOn gates (wire_of one (gate_at gates (get_or (set places count place) s 0))) (place + 1) (get_or new.next (wire_of one (gate_at pattern s)) 0)
@@ -151,28 +212,23 @@ cursors_led {gates} {pattern} {places} {count} {place} {old} {new} are is_taken 
         )
     at s one below (inr (inr more)) = absurd (omega arith)
 
--- all chosen places were looked at where the last one was
-pub all_seen : {gates pattern : List Gate} {places : List ℕ} {end count : ℕ} (reach : ℕ) → IsGrown gates pattern end places count → 0 < count → get_or places (count - 1) 0 < reach →
-    (s : ℕ) → s < count → get_or places s 0 < reach
-all_seen {gates} {pattern} {places} {end} {count} reach grown some last s below = by (cases_order s (count - 1))
-  where
-    by : (s ≡ count - 1) ⊎ ((s < count - 1) ⊎ (count - 1 < s)) → get_or places s 0 < reach
-    by (inl same) = subst (λ (k : ℕ). get_or places k 0 < reach) (sym same) last
-    by (inr (inl less)) = (let rise : get_or places s 0 < get_or places (count - 1) 0 = grown.rising s (count - 1) less (omega arith) in omega arith)
-    by (inr (inr more)) = absurd (omega arith)
-
--- and those with a place more
-pub one_seen : {places : List ℕ} {count : ℕ} (place reach : ℕ) → AreEight places count → count < 8 → ((s : ℕ) → s < count → get_or places s 0 < place) → place < reach →
-    (s : ℕ) → s ≤ count → get_or (set places count place) s 0 < reach
-one_seen {places} {count} place reach eight room above seen s upto = by (cases_order s count)
-  where
-    by : (s ≡ count) ⊎ ((s < count) ⊎ (count < s)) → get_or (set places count place) s 0 < reach
-    by (inl same) = (let e : get_or (set places count place) s 0 ≡ place = ap (λ (k : ℕ). get_or (set places count place) k 0) same ∙ put_at places count place eight.eight room in omega arith)
-    by (inr (inl less)) = (let e : get_or (set places count place) s 0 ≡ get_or places s 0 = put_before places count place eight.eight room s less in let a : get_or places s 0 < place = above s less in omega arith)
-    by (inr (inr more)) = absurd (omega arith)
-
 -- the place that was put in last
 pub last_is : {places : List ℕ} {count : ℕ} (place : ℕ) → AreEight places count → count < 8 → get_or (set places count place) (count + 1 - 1) 0 ≡ place
 last_is {places} {count} place eight room =
     let e : count + 1 - 1 ≡ count = omega arith in
     ap (λ (k : ℕ). get_or (set places count place) k 0) e ∙ put_at places count place eight.eight room
+
+-- the least of three places is that of one of them
+pub least_stands : (cursors : Cursors) (place : ℕ) → place ≡ min (min (get_or cursors.next 0 0) (get_or cursors.next 1 0)) (get_or cursors.next 2 0) → IsAtCursor place cursors
+least_stands cursors place at =
+    by (cases_order (get_or cursors.next 0 0) (get_or cursors.next 1 0)) (cases_order (min (get_or cursors.next 0 0) (get_or cursors.next 1 0)) (get_or cursors.next 2 0))
+  where
+    by : (get_or cursors.next 0 0 ≡ get_or cursors.next 1 0) ⊎ ((get_or cursors.next 0 0 < get_or cursors.next 1 0) ⊎ (get_or cursors.next 1 0 < get_or cursors.next 0 0)) →
+        (min (get_or cursors.next 0 0) (get_or cursors.next 1 0) ≡ get_or cursors.next 2 0) ⊎
+        ((min (get_or cursors.next 0 0) (get_or cursors.next 1 0) < get_or cursors.next 2 0) ⊎ (get_or cursors.next 2 0 < min (get_or cursors.next 0 0) (get_or cursors.next 1 0))) →
+        IsAtCursor place cursors
+    by _ (inl same) = (2, omega arith, omega arith)
+    by _ (inr (inr more)) = (2, omega arith, omega arith)
+    by (inl same) (inr (inl less)) = (0, omega arith, omega arith)
+    by (inr (inl lower)) (inr (inl less)) = (0, omega arith, omega arith)
+    by (inr (inr higher)) (inr (inl less)) = (1, omega arith, omega arith)

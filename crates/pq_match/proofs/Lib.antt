@@ -12,7 +12,9 @@ pub mod RewritingPlaces
 pub mod Growing
 pub mod GrowingWalk
 pub mod GrowingSkips
+pub mod Marking
 pub mod CursorLaws
+pub mod LookingAlike
 pub mod Seeking
 pub mod SearchWires
 pub mod SearchTouches

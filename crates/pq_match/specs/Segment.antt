@@ -2,12 +2,13 @@ use Rattle.std.specs.Prelude.{ℕ, ◌<◌, ◌≤◌, List, length}
 use Rattle.pq_gate.specs.declared.gate.Gate.{Gate}
 use Rattle.pq_gate.specs.Commuting.{Touches}
 use Rattle.pq_links.specs.Places.{gate_at}
+use Rattle.pq_match.specs.declared.looked.Looked.{Looked}
 
--- a segment: its gates, the room that was asked for, and for some starts how far a search looked that found no redex there
+-- a segment: its gates, the room that was asked for, and for some starts what a search looked at that found no redex there
 pub record SegView : Type 0 where
   pub items : List Gate
   pub room : ℕ
-  pub tried : List ℕ
+  pub tried : List Looked
 
 -- a list of this length has the room that was asked for
 pub record HasRoom (len capacity asked : ℕ) : Type 0 where

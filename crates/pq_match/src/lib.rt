@@ -3,6 +3,7 @@
 
 mod cursors;
 pub mod laws;
+mod looked;
 mod redex;
 mod rewrite;
 #[cfg(test)]

@@ -12,6 +12,7 @@ ghost use Rattle.pq_match.specs.Seek.{AreTried, AreKept};
 ghost use Rattle.pq_match.specs.Found.{IsRedexOf, Rewrites};
 
 use crate::laws::rewriting_keeps_the_matrix;
+use crate::looked::Looked;
 use crate::redex::Redex;
 use crate::segment::Seg;
 use pq_gate::Gate;
@@ -46,12 +47,12 @@ impl Seg {
 }
 
 /// Keeps what is known of the starts whose searches looked at no place from `first` on.
-fn keep_tried(tried: &mut [u32], first: u32)
+fn keep_tried(tried: &mut [Looked], first: u32)
     ensures { AreKept first tried.old tried.new }
 {
     for start in 0..tried.len() {
-        if tried[start] > first {
-            tried[start] = 0;
+        if tried[start].reach > first {
+            tried[start] = Looked::nowhere();
         }
     }
 }

@@ -3,6 +3,7 @@ ghost use Rattle.pq_gate.specs.Commuting.{Touches};
 ghost use Rattle.pq_match.specs.Redex.{gate_at};
 ghost use Rattle.pq_match.specs.Segment.{IsNextUse};
 
+use crate::looked::Looked;
 use pq_gate::Gate;
 use pq_limits::MAX_SEGMENT;
 use pq_links::Links;
@@ -18,8 +19,9 @@ pub struct Seg {
     pub(crate) gates: Vec<Gate>,
     pub(crate) links: Links,
 
-    // For starts from the first on: 0 where nothing is known, or how far a search looked that found no redex there.
-    pub(crate) tried: Vec<u32>,
+    // For starts from the first on: what a search looked at that found no redex there; the reach is 0 where nothing is
+    // known.
+    pub(crate) tried: Vec<Looked>,
     pub(crate) asked: u32,
 }
 

@@ -6,6 +6,7 @@ ghost use Rattle.pq_match.specs.Redex.{HasNoRedex};
 ghost use Rattle.pq_match.specs.Found.{IsFirstFound, FindsWithin};
 ghost use Rattle.pq_match.specs.Seek.{AreTried, TriesStart, IsNoted};
 
+use crate::looked::Looked;
 use crate::redex::Redex;
 use crate::search::find_within;
 use crate::seek::seek_from;
@@ -35,8 +36,8 @@ fn first_redex(seg: &Seg, rules: &Rules) -> Option<Redex>
         return find_within(gates, rules, count);
     }
     for start in 0..count {
-        let mut reach = start + 1;
-        if let Some(first) = seek_from(gates, seg.links.nexts(), rules, start, &mut reach) {
+        let mut looked = Looked::at(start);
+        if let Some(first) = seek_from(gates, seg.links.nexts(), rules, start, &mut looked) {
             return Some(first);
         }
     }
@@ -89,6 +90,7 @@ impl Seg {
     }
 
     // the first redex that begins at the start
+    #[tactic(auto, using(crate::proofs::Starting::tried_noted, crate::proofs::Starting::known_none))]
     fn try_start(&mut self, rules: &Rules, start: u32) -> Option<Redex>
         requires tried { AreTried rules.now self.old.items self.old.tried }
         requires slots { AreSlots self.old.items }
@@ -101,34 +103,29 @@ impl Seg {
         ensures more { result ≡ None → start < length self.new.tried }
     {
         let index = start as usize;
-        if index < self.tried.len() && self.tried[index] > 0 {
+        if index < self.tried.len() && self.tried[index].reach > 0 {
             return None;
         }
-        let mut looked = start + 1;
-        let found = seek_from(
-            self.gates.as_slice(),
-            self.links.nexts(),
-            rules,
-            start,
-            &mut looked,
-        );
-        if found.is_none() {
-            note_tried(&mut self.tried, index, looked);
-        }
-        found
+        let mut noted = Looked::at(start);
+        let gates = self.gates.as_slice();
+        let Some(first) = seek_from(gates, self.links.nexts(), rules, start, &mut noted) else {
+            note_tried(&mut self.tried, index, noted);
+            return None;
+        };
+        Some(first)
     }
 }
 
-// notes how far the search of a start looked
-fn note_tried(tried: &mut Vec<u32>, index: usize, reach: u32)
+// notes what the search of a start looked at
+fn note_tried(tried: &mut Vec<Looked>, index: usize, looked: Looked)
     requires next { index ≤ vec_len tried.old }
     requires room { index < vec_capacity tried.old }
     ensures room { vec_capacity tried.new ≡ vec_capacity tried.old }
-    ensures noted { IsNoted index reach tried.old.items tried.new.items }
+    ensures noted { IsNoted index looked tried.old.items tried.new.items }
 {
     if index < tried.len() {
-        tried[index] = reach;
+        tried[index] = looked;
     } else {
-        tried.push_reserved(reach);
+        tried.push_reserved(looked);
     }
 }

@@ -8,6 +8,7 @@ use Rattle.pq_match.specs.Rewrite.{rewritten}
 use Rattle.pq_match.proofs.Rewriting.{cut_front}
 use Rattle.std.proofs.lemmas.List.{get_or-take}
 use Rattle.pq_links.proofs.Pushing.{all_written}
+use Rattle.pq_match.specs.declared.looked.Looked.{Looked}
 use Rattle.pq_match.specs.Segment.{SegView}
 use Rattle.pq_match.specs.Seek.{BeginAlike, AreKept}
 use Rattle.pq_match.proofs.OneFirst.{last_inside}
@@ -56,7 +57,7 @@ returns-clause-tried c tried =
     tried_kept c.args.rules.now c.args.self.now.items _ c.args.self.now.tried _ (get_or c.args.redex.now.places 0 0)
     (subst (λ (xs : List Gate). BeginAlike (get_or c.args.redex.now.places 0 0) c.args.self.now.items xs) (sym done.gates)
     (subst (λ (p : ℕ). BeginAlike p c.args.self.now.items (rewritten c.args.self.now.items is.row.replacement redex)) first alike))
-    (subst (λ (xs : List ℕ). AreKept (get_or c.args.redex.now.places 0 0) c.args.self.now.tried xs)
-    (sym (all_written c.self.inside.tried.len c.keep_tried.new.tried c.self.inside.tried.items (omega (arith, whole, ap (λ (xs : List ℕ). length xs) c.as_mut_slice-2.ensures.value))))
-    (subst (λ (xs : List ℕ). AreKept (get_or c.args.redex.now.places 0 0) xs c.keep_tried.new.tried) before c.keep_tried.ensures))
+    (subst (λ (xs : List Looked). AreKept (get_or c.args.redex.now.places 0 0) c.args.self.now.tried xs)
+    (sym (all_written c.self.inside.tried.len c.keep_tried.new.tried c.self.inside.tried.items (omega (arith, whole, ap (λ (xs : List Looked). length xs) c.as_mut_slice-2.ensures.value))))
+    (subst (λ (xs : List Looked). AreKept (get_or c.args.redex.now.places 0 0) xs c.keep_tried.new.tried) before c.keep_tried.ensures))
     tried
