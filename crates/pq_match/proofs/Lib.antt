@@ -36,3 +36,5 @@ pub mod RewritingTests
 pub mod Ranks
 pub mod RankedRedexes
 pub mod RankedRewriting
+pub mod NumberSets
+pub mod WakingWords

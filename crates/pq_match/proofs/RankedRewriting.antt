@@ -84,8 +84,7 @@ between : (xs : List Gate) (a b : ℕ) → a ≤ b → b ≤ length xs → ((p :
     (gates_in (take b xs) ≡ gates_in (take a xs)) × (gates_in (drop a xs) ≡ gates_in (drop b xs))
 between xs a b upto inside free =
     let e : a + (b - a) ≡ b = omega arith in
-    let each : (p : ℕ) → a ≤ p → p < a + (b - a) → is_free (gate_at xs p) ≡ true = λ p from below. free p from (omega arith) in
-    (
+    let each : (p : ℕ) → a ≤ p → p < a + (b - a) → is_free (gate_at xs p) ≡ true = λ p from below. free p from (omega arith) in (
       ap (λ k. gates_in (take k xs)) (sym e) ∙ skip_front xs a (b - a) (omega arith) each,
       skip_back xs a (b - a) (omega arith) each ∙ ap (λ k. gates_in (drop k xs)) e,
     )

@@ -14,3 +14,4 @@ pub mod Found
 pub mod Seek
 pub mod Segment
 pub mod Search
+pub mod Waiting

@@ -14,6 +14,8 @@ mod segment;
 mod starts;
 #[cfg(test)]
 mod tests;
+mod waiting;
+mod words;
 
 pub use redex::Redex;
 pub use search::find_within;
