@@ -16,26 +16,14 @@ use Rattle.pq_rules.specs.Renaming.{renamed}
 use Rattle.pq_match.specs.Wires.{wire_of}
 use Rattle.pq_match.specs.Redex.{RedexView, IsRedex, gate_at, last_place, is_chosen}
 use Rattle.pq_match.specs.Rewrite.{unchosen, rewritten}
+use Rattle.pq_match.specs.Work.{AreFreed, AreFilled}
 use Rattle.pq_match.proofs.OneFirst.{row_sound}
 use Rattle.pq_match.proofs.RenamedWires.{touches_renamed}
-use Rattle.pq_match.proofs.RewritingPlaces.{unchosen-append, last_place_is}
+use Rattle.pq_match.proofs.RewritingPlaces.{unchosen-append, before_first}
 use Rattle.pq_match.proofs.RewritingWires.{places_long, chosen_at}
 use Rattle.pq_match.proofs.SearchGates.{wire-renamed, wire_below, gate_on_wires}
 use Rattle.pq_match.proofs.Ranks.{IsTaken, rank, rank_taken, rank_gate, rank_less, front_gates, back_gates}
 use Rattle.pq_match.proofs.RankedRedexes.{moved, IsChosenAt, chosen_somewhere, is_chosen_at, last_moved, last_is_at, moved_at, taken_apart, redex_taken}
-
--- the slots at the places were freed, and no other changed
-pub record AreFreed (old new : List Gate) (places : List ℕ) : Type 0 where
-  pub whole : length new ≡ length old
-  pub freed : (p : ℕ) → p < length old → is_chosen places p ≡ true → gate_at new p ≡ free_slot
-  pub others : (p : ℕ) → p < length old → is_chosen places p ≡ false → gate_at new p ≡ gate_at old p
-
--- the gates were put into the slots from the start on, and no other changed
-pub record AreFilled (old new : List Gate) (start : ℕ) (gates : List Gate) : Type 0 where
-  pub whole : length new ≡ length old
-  pub filled : (k : ℕ) → k < length gates → gate_at new (start + k) ≡ gate_at gates k
-  pub before : (p : ℕ) → p < start → gate_at new p ≡ gate_at old p
-  pub behind : (p : ℕ) → start + length gates ≤ p → gate_at new p ≡ gate_at old p
 
 pub gates_in-append : (xs ys : List Gate) → gates_in (xs ++ ys) ≡ gates_in xs ++ gates_in ys
 gates_in-append [] ys = refl
@@ -214,7 +202,7 @@ filled_front old new start gates is room =
         ∙ sym (get_or-append_right (take start old) gates start k d (omega (arith, length-take start old)) behind)
 
 -- a place behind the last one isn't chosen
-behind_last : (places : List ℕ) → AllPairs (λ i j. i < j) places → (p : ℕ) → last_place places < p → is_chosen places p ≡ false
+pub behind_last : (places : List ℕ) → AllPairs (λ i j. i < j) places → (p : ℕ) → last_place places < p → is_chosen places p ≡ false
 behind_last places rising p after = by (cases_Bool (is_chosen places p))
   where
     by : (is_chosen places p ≡ true) ⊎ (is_chosen places p ≡ false) → is_chosen places p ≡ false
@@ -229,6 +217,10 @@ behind_last places rising p after = by (cases_Bool (is_chosen places p))
               let same : get_or places found.at 0 ≡ get_or places (length places - 1) 0 = ap (λ k. get_or places k 0) e in omega arith)
         ])
     by (inr not) = not
+
+-- nor one before the first one
+pub before_chosen : (places : List ℕ) → AllPairs (λ i j. i < j) places → (p : ℕ) → p < get_or places 0 0 → is_chosen places p ≡ false
+before_chosen places rising p below = before_first places rising p below
 
 module _ (rules : List RowView) (sound : All IsSound rules) (slots : List Gate) (free : AreSlots slots) (redex : RedexView) (is : IsRedex rules slots redex) where
   -- a gate of the replacement isn't led to the free slot's wire

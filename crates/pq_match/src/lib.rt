@@ -2,18 +2,22 @@
 #![tactic(auto)]
 
 mod cursors;
+mod exchange;
 pub mod laws;
 mod looked;
 mod redex;
+mod runs;
 mod rewrite;
 #[cfg(test)]
 mod rewriting_tests;
 mod search;
 mod seek;
 mod segment;
+mod spread;
 mod starts;
 #[cfg(test)]
 mod tests;
+mod tried;
 mod waiting;
 mod words;
 

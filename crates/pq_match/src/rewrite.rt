@@ -77,7 +77,7 @@ fn rewrite(gates: &mut [Gate], places: &[u32], row: &Row) -> usize
 }
 
 /// Where the wires of the pattern are led to by the gates at the places.
-fn read_wires(gates: &[Gate], places: &[u32], pattern: &[Gate]) -> [u32; ROW_WIRES]
+pub(crate) fn read_wires(gates: &[Gate], places: &[u32], pattern: &[Gate]) -> [u32; ROW_WIRES]
     requires count { length places.now ≡ length pattern.now }
     requires inside { All (λ place. place < length gates.now) places.now }
     requires on_wires { IsCircuit MAX_ROW_WIRES pattern.now }
@@ -141,7 +141,7 @@ fn put(gates: &mut [Gate], start: usize, replacement: &[Gate], wires: &[u32; ROW
 }
 
 /// The gate with its wires renamed.
-fn rename(gate: Gate, wires: &[u32; ROW_WIRES]) -> Gate
+pub(crate) fn rename(gate: Gate, wires: &[u32; ROW_WIRES]) -> Gate
     requires { IsOnWires MAX_ROW_WIRES gate }
     ensures { result ≡ renamed wires.now gate }
 {
