@@ -13,6 +13,7 @@ pub mod Growing
 pub mod GrowingWalk
 pub mod GrowingSkips
 pub mod Marking
+pub mod Staying
 pub mod CursorLaws
 pub mod LookingAlike
 pub mod Seeking

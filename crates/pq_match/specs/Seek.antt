@@ -149,6 +149,18 @@ note_at tried start = slice_index_or tried start (record { reach = 0; mask = 0 }
 pub record AreTried (rules : List RowView) (slots : List Gate) (tried : List Looked) : Type 0 where
   pub failed : (start : ℕ) → start < length tried → 0 < (note_at tried start).reach → HasFailed rules slots start (note_at tried start)
 
+-- From the one list to the other gates came and went only at places from the first to the last of these, and only on wires that
+-- the mask marks.
+pub record AreChangedOn (first last mask : ℕ) (old new : List Gate) : Type 0 where
+  pub whole : length new ≡ length old
+  pub before : (p : ℕ) → p < first → gate_at new p ≡ gate_at old p
+  pub behind : (p : ℕ) → last < p → gate_at new p ≡ gate_at old p
+  pub wires : (p w : ℕ) → w ≢ no_wire → Touches (gate_at old p) w ⊎ Touches (gate_at new p) w → (gate_at new p ≡ gate_at old p) ⊎ HasBit mask w
+
+-- so they look alike to this search, where they have the same gate at the start
+pub record StaysOver (start : ℕ) (looked : Looked) (first last mask : ℕ) : Type 0 where
+  pub alike : (old new : List Gate) → AreChangedOn first last mask old new → gate_at new start ≡ gate_at old start → LookAlike start looked old new
+
 -- what looked at no place from `first` on is kept
 pub record AreKept (first : ℕ) (old new : List Looked) : Type 0 where
   pub whole : length new ≡ length old

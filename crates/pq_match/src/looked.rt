@@ -3,7 +3,7 @@
 ghost use Rattle.std.specs.Prelude.{◌≡◌, ◌+◌, ◌<◌, Bool, true};
 ghost use Rattle.pq_links.specs.Links.{far};
 ghost use Rattle.pq_links.specs.Wires.{wire_of};
-ghost use Rattle.pq_match.specs.Seek.{HasBit, MarksAll, LooksAtMore};
+ghost use Rattle.pq_match.specs.Seek.{HasBit, MarksAll, LooksAtMore, StaysOver};
 
 use pq_gate::Gate;
 
@@ -77,5 +77,20 @@ impl Looked {
         if free {
             self.mask = u64::MAX;
         }
+    }
+
+    /// Whether what was found out from a start stays so where gates came and went only at places from the first to the
+    /// last of these, on wires that the mask marks, and not at the start. It may answer false where it does.
+    #[tactic(auto, using(crate::proofs::Staying::stays_before, crate::proofs::Staying::stays_behind, crate::proofs::Staying::stays_apart))]
+    pub fn stays(&self, start: u32, first: u32, last: u32, mask: u64) -> bool
+        ensures { result ≡ true → StaysOver start self.now first last mask }
+    {
+        if self.reach <= first {
+            return true;
+        }
+        if last <= start {
+            return true;
+        }
+        self.mask & mask == 0
     }
 }
