@@ -7,12 +7,7 @@ ghost use Rattle.pq_links.specs.Links.{AreLinked, IsLastOn};
 ghost use Rattle.pq_links.specs.Slots.{free_slot, spread, AreSlots, AreNext, ArePrevious, AreChained, IsGap};
 ghost use Rattle.pq_links.specs.Leading.{doubled, AreLed, AreSpread, LeadNowhere};
 
-<<<<<<< HEAD
 use crate::links::{FAR, Links, NO_WIRE, Sides, lead, next_on, side_on};
-use crate::wires::wires_of;
-=======
-use crate::links::{FAR, Links, NO_WIRE, Sides, lead, next_on};
->>>>>>> 8ca76b1cd538e89934472ae7de3bed297246d263
 use pq_gate::Gate;
 use pq_list::OutOfMemory;
 use std::alloc::Global;

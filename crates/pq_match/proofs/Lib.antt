@@ -37,13 +37,10 @@ pub mod RewritingTests
 pub mod Ranks
 pub mod RankedRedexes
 pub mod RankedRewriting
-<<<<<<< HEAD
 pub mod NumberSets
 pub mod WakingWords
-=======
 pub mod Spreading
 pub mod RunsAround
 pub mod Exchanging
 pub mod Keeping
 pub mod Placed
->>>>>>> 8ca76b1cd538e89934472ae7de3bed297246d263
