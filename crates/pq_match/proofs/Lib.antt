@@ -44,3 +44,7 @@ pub mod RunsAround
 pub mod Exchanging
 pub mod Keeping
 pub mod Placed
+pub mod Settling
+pub mod Quieting
+pub mod Resettling
+pub mod Awaiting

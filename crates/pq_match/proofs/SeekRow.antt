@@ -216,7 +216,7 @@ seen_past alike wire place seen.Unclear whole past is = is
 seen_past alike wire place (seen.Plays own) whole past is = subst (λ (g : Gate). (own ≡ role_on wire g) × IsClear g) (same_past alike place whole past) is
 
 -- a redex of a sound row at the start is of a row that admits what is seen
-row_admits : (rules : List RowView) (gates : List Gate) (start n1 n2 : ℕ) (near far : Seen) → All IsSound rules → (redex : RedexView) → (is : IsRedex rules gates redex) → StartsAt start redex →
+pub row_admits : (rules : List RowView) (gates : List Gate) (start n1 n2 : ℕ) (near far : Seen) → All IsSound rules → (redex : RedexView) → (is : IsRedex rules gates redex) → StartsAt start redex →
     IsNextOn gates (last_wire (gate_at gates start)) (start + 1) n1 → (n1 < length gates → IsNextOn gates (last_wire (gate_at gates start)) (n1 + 1) n2) →
     IsSeenAt gates (last_wire (gate_at gates start)) n1 near → IsSeenAt gates (last_wire (gate_at gates start)) n2 far → admits is.row.pattern near far ≡ true
 row_admits rules gates start n1 n2 near far sound redex is at first_next then_next near_is far_is = by is.row.pattern refl

@@ -73,9 +73,9 @@ pub record AreWokenTo (waiting failed reach masks : List ℕ) (first wires count
 pub woken_none : (waiting failed reach masks : List ℕ) (first wires : ℕ) → AreWokenTo waiting failed reach masks first wires 0
 woken_none waiting failed reach masks first wires = record { each = λ start below has sleeps. absurd (omega arith) }
 
-pub woken_all : {waiting failed reach masks : List ℕ} {first wires : ℕ} (end count : ℕ) → count ≡ min (length waiting) (end / 64 + 1) →
+pub woken_all : {waiting failed reach masks : List ℕ} {first wires : ℕ} (end count : ℕ) → count ≡ min (length waiting) (end / 64 + 1) → end ≤ 64 * length waiting →
     AreWokenTo waiting failed reach masks first wires count → AreWoken waiting failed reach masks first end wires
-woken_all end count is woken = record { each = λ start below inside has sleeps. woken.each start (omega (arith, is)) has sleeps }
+woken_all end count is inside woken = record { each = λ start below has sleeps. woken.each start (omega (arith, is)) has sleeps }
 
 -- bits of a word with more bits
 has_or : (one other bit : ℕ) → (bit_at one bit ≡ 1) ⊎ (bit_at other bit ≡ 1) → bit_at (bit_or one other) bit ≡ 1

@@ -17,3 +17,4 @@ pub mod Work
 pub mod Segment
 pub mod Search
 pub mod Waiting
+pub mod Settled

@@ -57,7 +57,7 @@ IsUnmet reach masks first wires start = (slice_index reach start ≤ first) ⊎ 
 
 -- each start before the end that failed waits if its search looked behind the first place and at one of the wires
 pub record AreWoken (waiting failed reach masks : List ℕ) (first end wires : ℕ) : Type 0 where
-  pub each : (start : ℕ) → start < end → start < 64 * length waiting → HasNumber failed start → (HasNumber waiting start → ⊥) → IsUnmet reach masks first wires start
+  pub each : (start : ℕ) → start < end → HasNumber failed start → (HasNumber waiting start → ⊥) → IsUnmet reach masks first wires start
 
 -- the same of one word
 pub record AreMet (left base : ℕ) (reach masks : List ℕ) (first wires found : ℕ) : Type 0 where

@@ -136,6 +136,10 @@ pub record AreKeptApart (places : List ℕ) (run : Run) (mask : ℕ) (old new : 
 pub record MarksPlaces (slots : List Gate) (places : List ℕ) (mask : ℕ) : Type 0 where
   pub marked : (k : ℕ) (one : Bool) → k < length places → HasBit mask (wire_of one (gate_at slots (slice_index places k)))
 
+-- the gates at the places don't use the number that stands for no wire
+pub record AreTakenAt (slots : List Gate) (places : List ℕ) : Type 0 where
+  pub own : (k : ℕ) (one : Bool) → k < length places → wire_of one (gate_at slots (slice_index places k)) ≢ no_wire
+
 -- the gates at the places are those of the row's pattern, with its wires led to these
 pub record IsPlaced (slots : List Gate) (row : RowView) (wires places : List ℕ) : Type 0 where
   pub lead : AreWires row.wires wires

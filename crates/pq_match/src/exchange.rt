@@ -37,7 +37,15 @@ pub fn exchange(slots: &mut [Gate], chains: &mut Chains, row: &Row, places: &[u3
     let wires = read_wires(slots, places, pattern);
     let mut gaps = take_out(slots, chains, places, pattern, &wires, run.end);
     let replacement = row.replacement();
-    put_in(slots, chains, run.start, replacement, &wires, run.end, &mut gaps);
+    put_in(
+        slots,
+        chains,
+        run.start,
+        replacement,
+        &wires,
+        run.end,
+        &mut gaps,
+    );
 }
 
 /// Frees the slots at the places, which hold the pattern's gates. Answers the gaps at the end on the pattern's wires.
@@ -68,7 +76,15 @@ pub fn take_out(
         after: [0; 3],
     };
     for index in 0..places.len() {
-        take_gate(slots, chains, places[index], pattern[index], wires, end, &mut gaps);
+        take_gate(
+            slots,
+            chains,
+            places[index],
+            pattern[index],
+            wires,
+            end,
+            &mut gaps,
+        );
     }
     gaps
 }

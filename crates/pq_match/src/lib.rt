@@ -6,10 +6,10 @@ mod exchange;
 pub mod laws;
 mod looked;
 mod redex;
-mod runs;
 mod rewrite;
 #[cfg(test)]
 mod rewriting_tests;
+mod runs;
 mod search;
 mod seek;
 mod segment;
@@ -19,6 +19,7 @@ mod starts;
 mod tests;
 mod tried;
 mod waiting;
+mod waking;
 mod words;
 
 pub use redex::Redex;

@@ -149,6 +149,7 @@ impl Starts {
     /// Each start before the end that failed waits if its search looked behind the first one of some places, and at one
     /// of some wires.
     pub fn wake_failed(&mut self, first: u32, end: u32, wires: u64)
+        requires { end ≤ self.old.room }
         ensures wait { AreWoken self.new.waiting self.new.failed self.new.reach self.new.masks first end wires }
         ensures more { WaitMore self.old self.new }
     {
@@ -180,6 +181,7 @@ fn wake_words(
     requires failed { length failed.now ≡ length waiting.old }
     requires reach { length reach.now ≡ 64 * length waiting.old }
     requires masks { length masks.now ≡ 64 * length waiting.old }
+    requires end { end ≤ 64 * length waiting.old }
     ensures wait { AreWoken waiting.new failed.now reach.now masks.now first end wires }
     ensures kept { (start : ℕ) → HasNumber waiting.old start → HasNumber waiting.new start }
 {
