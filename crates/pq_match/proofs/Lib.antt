@@ -48,3 +48,4 @@ pub mod Settling
 pub mod Quieting
 pub mod Resettling
 pub mod Awaiting
+pub mod Working

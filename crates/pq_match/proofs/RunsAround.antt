@@ -12,18 +12,18 @@ pub last_chosen : (places : List ℕ) → 0 < length places → is_chosen places
 last_chosen places some = is_chosen_at places (length places - 1) (last_place places) (omega arith) (last_is_at places some)
 
 -- what lies between both ends
-pub run_is : (slots : List Gate) (places : List ℕ) (count start end : ℕ) → 0 < length places → get_or places 0 0 ≤ start → start ≤ last_place places →
-    last_place places + 1 ≤ end → end ≤ length slots → count ≤ end - start → ((p : ℕ) → last_place places + 1 ≤ p → p < end → is_free (gate_at slots p) ≡ true) →
-    AreSpare slots places start (last_place places) → IsRun slots places count (record { start = start; end = end })
-run_is slots places count start end some from upto behind inside room free spare = record {
+pub run_is : (slots : List Gate) (places : List ℕ) (count start end last : ℕ) → 0 < length places → last ≡ last_place places → get_or places 0 0 ≤ start → start ≤ last →
+    last + 1 ≤ end → end ≤ length slots → count ≤ end - start → ((p : ℕ) → last + 1 ≤ p → p < end → is_free (gate_at slots p) ≡ true) →
+    AreSpare slots places start last → IsRun slots places count (record { start = start; end = end })
+run_is slots places count start end last some is from upto behind inside room free spare = record {
   from = from;
-  upto = upto;
+  upto = omega arith;
   behind = omega arith;
   inside = inside;
   room = omega arith;
   spare = record {
-    each = λ p p_from below. elim (cases_order p (last_place places)) [
-      | inl same ↦ inr (ap (is_chosen places) same ∙ last_chosen places some)
+    each = λ p p_from below. elim (cases_order p last) [
+      | inl same ↦ inr (ap (is_chosen places) (same ∙ is) ∙ last_chosen places some)
       | inr other ↦ elim other [ inl less ↦ spare.each p p_from less | inr more ↦ inl (free p (omega arith) below) ]
     ];
   };

@@ -13,6 +13,7 @@ mod runs;
 mod search;
 mod seek;
 mod segment;
+mod slots;
 mod spread;
 mod starts;
 #[cfg(test)]
@@ -21,6 +22,7 @@ mod tried;
 mod waiting;
 mod waking;
 mod words;
+mod work;
 
 pub use redex::Redex;
 pub use search::find_within;

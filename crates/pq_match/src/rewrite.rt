@@ -8,11 +8,9 @@ ghost use Rattle.pq_rules.specs.Row.{Uses};
 ghost use Rattle.pq_rules.specs.Renaming.{renamed};
 ghost use Rattle.pq_match.specs.Redex.{IsMatch, gate_at, last_place};
 ghost use Rattle.pq_match.specs.Rewrite.{unchosen, rewritten};
-ghost use Rattle.pq_match.specs.Seek.{AreTried, AreKept};
 ghost use Rattle.pq_match.specs.Found.{IsRedexOf, Rewrites};
 
 use crate::laws::rewriting_keeps_the_matrix;
-use crate::looked::Looked;
 use crate::redex::Redex;
 use crate::segment::Seg;
 use pq_gate::Gate;
@@ -33,27 +31,14 @@ impl Seg {
         ensures turn { result < 8 }
         ensures shorter { length self.new.items < length self.old.items }
         ensures room { self.new.room ≡ self.old.room }
-        ensures tried { AreTried rules.now self.old.items self.old.tried → AreTried rules.now self.new.items self.new.tried }
     {
         let row = rules.row(redex.row).unwrap();
         let places = &redex.places[..redex.count as usize];
         let left = rewrite(self.gates.as_mut_slice(), places, row);
         self.gates.truncate(left);
         self.links.build(self.gates.as_slice());
-        keep_tried(self.tried.as_mut_slice(), redex.places[0]);
         rewriting_keeps_the_matrix();
         row.phase()
-    }
-}
-
-/// Keeps what is known of the starts whose searches looked at no place from `first` on.
-fn keep_tried(tried: &mut [Looked], first: u32)
-    ensures { AreKept first tried.old tried.new }
-{
-    for start in 0..tried.len() {
-        if tried[start].reach > first {
-            tried[start] = Looked::nowhere();
-        }
     }
 }
 
