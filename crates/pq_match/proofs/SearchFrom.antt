@@ -13,7 +13,7 @@ use Rattle.pq_match.specs.Search.{IsFrom, IsOfRow}
 use Rattle.pq_match.proofs.SearchGates.{kind-renamed}
 use Rattle.pq_match.proofs.RewritingWires.{places_long, chosen_at}
 use Rattle.pq_match.proofs.SearchNumbers.{begins_by_kind, numbers_rise, stands_where}
-use Rattle.pq_match.proofs.SearchPlaces.{StandsAt}
+use Rattle.pq_match.specs.Settled.{StandsAt}
 
 -- none of the rows with the first of these numbers has a redex here
 pub record AreTried (rules : List RowView) (gates : List Gate) (start end : ℕ) (numbers : List ℕ) (index : ℕ) : Type 0 where

@@ -32,7 +32,7 @@ use Rattle.pq_match.proofs.LookingAlike.{looks_alike, alike_less, as_long, same_
 use Rattle.pq_match.proofs.SearchFrom.{begins_here}
 use Rattle.pq_match.proofs.SearchMatch.{match_full}
 use Rattle.pq_match.proofs.SearchNumbers.{numbers_rise, stands_where}
-use Rattle.pq_match.proofs.SearchPlaces.{StandsAt}
+use Rattle.pq_match.specs.Settled.{StandsAt, AreCandidates}
 use Rattle.pq_match.proofs.SearchRow.{none_of_row, first_of_row}
 
 -- what was found out of a part holds of more
@@ -77,11 +77,6 @@ first_of_row_alike {rules} {gates} {number} {start} {row} {places} front numbere
       };
       padded = found.padded;
     }
-
--- The rows of all redexes at the start are among those with these numbers, which rise.
-pub record AreCandidates (rules : List RowView) (gates : List Gate) (start : ℕ) (looked : Looked) (numbers : List ℕ) : Type 0 where
-  pub rise : (i j : ℕ) → i < j → j < length numbers → get_or numbers i 0 < get_or numbers j 0
-  pub all : (other : List Gate) → AreSlots other → LookAlike start looked gates other → (redex : RedexView) → IsRedex rules other redex → StartsAt start redex → StandsAt numbers redex.row
 
 -- none of the rows with the first of these numbers has a redex here
 pub record AreTriedAlike (rules : List RowView) (gates : List Gate) (start : ℕ) (looked : Looked) (numbers : List ℕ) (index : ℕ) : Type 0 where

@@ -11,10 +11,22 @@ use Rattle.pq_rules.specs.declared.seen.Seen.{Seen}
 use Rattle.pq_links.specs.Wires.{wire_of}
 use Rattle.pq_links.specs.Places.{gate_at}
 use Rattle.pq_links.specs.Links.{IsNextOn}
-use Rattle.pq_links.specs.Slots.{free_slot}
-use Rattle.pq_match.specs.Redex.{is_chosen, last_place}
-use Rattle.pq_match.specs.Seek.{IsSeenAt, HasFailed}
+use Rattle.pq_links.specs.Slots.{free_slot, AreSlots}
+use Rattle.pq_match.specs.Redex.{RedexView, IsRedex, is_chosen, last_place}
+use Rattle.pq_match.specs.Seek.{IsSeenAt, LookAlike, StartsAt, HasFailed}
+use Rattle.pq_match.specs.declared.looked.Looked.{Looked}
 use Rattle.pq_match.specs.Waiting.{StartsView, IsWaiting, IsNotedFailed, noted, IsSameOf}
+
+-- where a number stands in a list
+pub record StandsAt (numbers : List ℕ) (number : ℕ) : Type 0 where
+  pub at : ℕ
+  pub below : at < length numbers
+  pub is : slice_index numbers at ≡ number
+
+-- The rows of all redexes at the start are among those with these numbers, which rise, in any slots that look alike.
+pub record AreCandidates (rules : List RowView) (slots : List Gate) (start : ℕ) (looked : Looked) (numbers : List ℕ) : Type 0 where
+  pub rise : (i j : ℕ) → i < j → j < length numbers → slice_index numbers i < slice_index numbers j
+  pub all : (other : List Gate) → AreSlots other → LookAlike start looked slots other → (redex : RedexView) → IsRedex rules other redex → StartsAt start redex → StandsAt numbers redex.row
 
 -- the next place on the wire behind the start, the next one behind that, and what is seen there
 pub record SeesAhead (slots : List Gate) (wire start one other : ℕ) (near far : Seen) : Type 0 where
@@ -32,6 +44,10 @@ pub record IsQuiet (rules : List RowView) (slots : List Gate) (start : ℕ) : Ty
   pub far : Seen
   pub ahead : SeesAhead slots (last_wire (gate_at slots start)) start one other near far
   pub none : numbers_where (is_admitting (number_of (kind_of (gate_at slots start))) near far) 1 rules ≡ []
+
+-- No search is needed there: the slot is free or quiet.
+abbrev pub IsStill : List RowView → List Gate → ℕ → Type 0
+IsStill rules slots start = (gate_at slots start ≡ free_slot) ⊎ IsQuiet rules slots start
 
 -- a start where a search failed, of which it is noted what that looked at
 pub record IsFailed (rules : List RowView) (slots : List Gate) (starts : StartsView) (start : ℕ) : Type 0 where
