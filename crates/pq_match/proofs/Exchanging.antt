@@ -1,16 +1,16 @@
 -- Freeing the slots of a redex, and putting its replacement into free ones.
-use Rattle.std.proofs.Common.{◌≡◌, ◌≢◌, ℕ, zero, suc, ◌+◌, ◌-◌, ◌<◌, ◌≤◌, Bool, true, false, List, [], ◌∷◌, ◌++◌, ◌⊎◌, min, length, map, get_or, set, take, drop, inl, inr, refl, ap, sym, subst, ◌∙◌, arith, length-set}
-use Rattle.std.specs.Prelude.{All, AllPairs}
+use Rattle.std.proofs.Common.{◌≡◌, ◌≢◌, ℕ, ◌+◌, ◌<◌, ◌≤◌, Bool, true, false, List, ◌⊎◌, min, length, map, get_or, set, take, inl, inr, refl, ap, sym, subst, ◌∙◌, arith, length-set}
+use Rattle.std.specs.Prelude.{AllPairs}
 use Rattle.std.proofs.lemmas.Bool.{cases_eq, cases_lt, cases_Bool, both_ways}
 use Rattle.std.proofs.lemmas.List.{get_or-set_same, get_or-set_other, get_or-map, get_or-take, length-map, length-take, take_all}
 use Rattle.pq_gate.specs.declared.gate.Gate.{Gate}
 use Rattle.pq_gate.specs.declared.gate.Gate.TheVariants.{H}
-use Rattle.pq_gate.specs.Circuit.{IsOnWires, IsCircuit}
+use Rattle.pq_gate.specs.Circuit.{IsOnWires}
 use Rattle.pq_gate.specs.Commuting.{Touches}
 use Rattle.pq_links.specs.declared.chains.Gap.{Gap}
 use Rattle.pq_links.specs.Wires.{wire_of}
 use Rattle.pq_links.specs.Links.{far}
-use Rattle.pq_links.specs.Slots.{no_wire, free_slot, AreSlots, AreChained, IsGap, ChainsView}
+use Rattle.pq_links.specs.Slots.{no_wire, free_slot, IsGap, ChainsView}
 use Rattle.pq_links.proofs.Touching.{touched, touching}
 use Rattle.pq_links.proofs.Gaps.{gap_removed, gap_inserted, gap_in_run, gap_at_end}
 use Rattle.pq_rules.specs.Renaming.{renamed}

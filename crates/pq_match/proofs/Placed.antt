@@ -1,26 +1,24 @@
 -- A row's gates at places of slots, and what is exchanged there.
-use Rattle.std.proofs.Common.{◌≡◌, ◌≢◌, ℕ, zero, suc, ◌+◌, ◌-◌, ◌<◌, ◌≤◌, Bool, true, false, List, [], ◌∷◌, ◌⊎◌, length, map, get_or, inl, inr, refl, ap, sym, subst, ◌∙◌, arith}
+use Rattle.std.proofs.Common.{◌≡◌, ◌≢◌, ℕ, ◌+◌, ◌-◌, ◌<◌, ◌≤◌, Bool, true, false, List, [], ◌∷◌, ◌⊎◌, length, map, get_or, inl, inr, refl, ap, sym, subst, ◌∙◌, arith}
 use Rattle.std.specs.Prelude.{All, AllPairs}
-use Rattle.std.proofs.lemmas.Bool.{cases_lt, cases_Bool, cases_eq, both_ways}
+use Rattle.std.proofs.lemmas.Bool.{cases_lt, cases_Bool, both_ways}
 use Rattle.std.proofs.lemmas.List.{get_or-map, get_or_default, get_or_past, length-map}
 use Rattle.pq_gate.specs.declared.gate.Gate.{Gate}
 use Rattle.pq_gate.specs.declared.gate.Gate.TheVariants.{H}
-use Rattle.pq_gate.specs.Circuit.{AreOn, IsOnWires, IsCircuit}
+use Rattle.pq_gate.specs.Circuit.{AreOn, IsCircuit}
 use Rattle.pq_gate.specs.Commuting.{Touches}
 use Rattle.pq_gate.specs.Ports.{wires_of}
 use Rattle.pq_links.specs.Wires.{wire_of}
-use Rattle.pq_links.specs.Slots.{no_wire, free_slot, is_free, AreSlots, gates_in}
+use Rattle.pq_links.specs.Slots.{no_wire, free_slot, AreSlots}
 use Rattle.pq_links.proofs.Touching.{touched, touching}
 use Rattle.pq_links.proofs.Changing.{free_uses}
 use Rattle.pq_rules.specs.Row.{RowView, Uses, IsSound}
 use Rattle.pq_rules.specs.Renaming.{renamed}
 use Rattle.pq_match.specs.declared.exchange.Gaps.{Gaps}
 use Rattle.pq_match.specs.declared.runs.Run.{Run}
-use Rattle.pq_match.specs.Redex.{AreWires, IsMatch, gate_at, is_chosen, last_place}
+use Rattle.pq_match.specs.Redex.{gate_at, is_chosen}
 use Rattle.pq_match.specs.Seek.{HasBit}
-use Rattle.pq_match.specs.Work.{IsPlaced, IsExchanged, AreFreed, AreFilled, IsRun, IsSpare, AreOwn, AreGaps, AreGapsOn, IsGapOn, IsFreeRun, ChangesAt, MarksPlaces}
-use Rattle.pq_match.proofs.RenamedWires.{touches_renamed}
-use Rattle.pq_match.proofs.RewritingPlaces.{first_upto_last}
+use Rattle.pq_match.specs.Work.{IsPlaced, IsExchanged, AreFreed, IsRun, IsSpare, AreOwn, AreGaps, IsGapOn, IsFreeRun, ChangesAt, MarksPlaces}
 use Rattle.pq_match.proofs.RewritingWires.{places_long, chosen_at, all_renamed_same}
 use Rattle.pq_match.proofs.SearchGates.{wire-renamed, wire_below, gate_on_wires, wires_apart}
 use Rattle.pq_match.proofs.Ranks.{IsTaken}

@@ -1,5 +1,5 @@
 -- The redexes of some slots are those of the gates in them: their places are ranks.
-use Rattle.std.proofs.Common.{◌≡◌, ◌≢◌, ℕ, zero, suc, ◌+◌, ◌-◌, ◌<◌, ◌≤◌, Bool, true, false, List, [], ◌∷◌, ◌⊎◌, length, map, get_or, inl, inr, refl, ap, sym, subst, ◌∙◌, arith, eqb}
+use Rattle.std.proofs.Common.{◌≡◌, ◌≢◌, ℕ, suc, ◌-◌, ◌<◌, ◌≤◌, true, false, List, [], ◌∷◌, ◌⊎◌, length, map, get_or, inl, inr, refl, ap, sym, subst, ◌∙◌, arith, eqb}
 use Rattle.std.specs.Prelude.{All, AllPairs}
 use Rattle.std.proofs.lemmas.Bool.{cases_lt, cases_Bool, eq-eqb, eqb-true, both_ways}
 use Rattle.std.proofs.lemmas.List.{length-map, get_or-map, get_or_default}
@@ -8,12 +8,12 @@ use Rattle.std.proofs.lemmas.List.Folds.{Any-from_list_any, list_any_at}
 use Rattle.pq_gate.specs.declared.gate.Gate.{Gate}
 use Rattle.pq_gate.specs.declared.gate.Gate.TheVariants.{Cx}
 use Rattle.pq_gate.specs.declared.kind.Kind.TheVariants as kind
-use Rattle.pq_gate.specs.Circuit.{IsOnWires, IsCircuit}
+use Rattle.pq_gate.specs.Circuit.{IsOnWires}
 use Rattle.pq_gate.specs.Commuting.{Touches, Commutes}
 use Rattle.pq_gate.specs.Kind.{kind_of}
 use Rattle.pq_gate.specs.Ports.{first_wire}
 use Rattle.pq_gate.proofs.WireLaws.{touches_first}
-use Rattle.pq_links.specs.Slots.{no_wire, free_slot, is_free, AreSlots, gates_in}
+use Rattle.pq_links.specs.Slots.{no_wire, free_slot, is_free, AreSlots}
 use Rattle.pq_rules.specs.Row.{RowView, IsSound}
 use Rattle.pq_rules.specs.Renaming.{renamed}
 use Rattle.pq_match.specs.Wires.{wire_of}
@@ -24,7 +24,7 @@ use Rattle.pq_match.proofs.RewritingPlaces.{last_place_is}
 use Rattle.pq_match.proofs.RewritingWires.{places_long, chosen_at}
 use Rattle.pq_match.proofs.SearchGates.{kind-renamed, wire-renamed, wire_below, gate_on_wires, wires_apart}
 use Rattle.pq_match.proofs.SearchTouches.{commute_apart}
-use Rattle.pq_match.proofs.Ranks.{IsTaken, AreRanked, are_ranked, rank, slot_of}
+use Rattle.pq_match.proofs.Ranks.{IsTaken, AreRanked}
 
 -- the redex with other places
 abbrev pub moved : (ℕ → ℕ) → RedexView → RedexView

@@ -1,15 +1,14 @@
 -- Rewriting in slots: the chosen ones are freed, and the replacement stands in free ones around the last of them. The
 -- gates in the slots are then the rewritten list.
-use Rattle.std.proofs.Common.{◌≡◌, ◌≢◌, ℕ, zero, suc, ◌+◌, ◌-◌, ◌<◌, ◌≤◌, Bool, true, false, cond, List, [], ◌∷◌, ◌++◌, ◌⊎◌, length, map, get_or, take, drop, inl, inr, refl, ap, sym, subst, ◌∙◌, arith, append_assoc, eqb}
+use Rattle.std.proofs.Common.{◌≡◌, ℕ, zero, suc, ◌+◌, ◌-◌, ◌<◌, ◌≤◌, Bool, true, false, cond, List, [], ◌∷◌, ◌++◌, ◌⊎◌, length, map, get_or, take, drop, inl, inr, refl, ap, sym, subst, ◌∙◌, arith, append_assoc}
 use Rattle.std.specs.Prelude.{All, AllPairs}
 use Rattle.std.proofs.lemmas.Bool.{cases_lt, cases_Bool, ne_eqb, both_ways}
-use Rattle.std.proofs.lemmas.List.{length-map, length-append, length-take, length-drop, get_or-map, get_or-take, get_or-drop, get_or_default, take_more, take-append-drop, take_all, drop_more, drop_all, append-nil, same_lists, get_or_append_left, get_or-append_right}
+use Rattle.std.proofs.lemmas.List.{length-map, length-append, length-take, length-drop, get_or-map, get_or-take, get_or-drop, get_or_default, take_more, take-append-drop, drop_more, append-nil, same_lists, get_or_append_left, get_or-append_right}
 use Rattle.pq_gate.specs.declared.gate.Gate.{Gate}
 use Rattle.pq_gate.specs.declared.gate.Gate.TheVariants.{H}
-use Rattle.pq_gate.specs.Circuit.{IsOnWires, IsCircuit}
+use Rattle.pq_gate.specs.Circuit.{IsOnWires}
 use Rattle.pq_gate.specs.Commuting.{Touches}
 use Rattle.pq_gate.specs.Ports.{first_wire}
-use Rattle.pq_gate.proofs.WireLaws.{touches_first}
 use Rattle.pq_links.specs.Slots.{no_wire, free_slot, is_free, AreSlots, gates_in}
 use Rattle.pq_rules.specs.Row.{RowView, Uses, IsSound}
 use Rattle.pq_rules.specs.Renaming.{renamed}
@@ -22,8 +21,8 @@ use Rattle.pq_match.proofs.RenamedWires.{touches_renamed}
 use Rattle.pq_match.proofs.RewritingPlaces.{unchosen-append, before_first}
 use Rattle.pq_match.proofs.RewritingWires.{places_long, chosen_at}
 use Rattle.pq_match.proofs.SearchGates.{wire-renamed, wire_below, gate_on_wires}
-use Rattle.pq_match.proofs.Ranks.{IsTaken, rank, rank_taken, rank_gate, rank_less, front_gates, back_gates}
-use Rattle.pq_match.proofs.RankedRedexes.{moved, IsChosenAt, chosen_somewhere, is_chosen_at, last_moved, last_is_at, moved_at, taken_apart, redex_taken}
+use Rattle.pq_match.proofs.Ranks.{IsTaken, rank, rank_taken, rank_less, front_gates, back_gates}
+use Rattle.pq_match.proofs.RankedRedexes.{moved, chosen_somewhere, is_chosen_at, last_moved, last_is_at, moved_at, taken_apart, redex_taken}
 
 pub gates_in-append : (xs ys : List Gate) → gates_in (xs ++ ys) ≡ gates_in xs ++ gates_in ys
 gates_in-append [] ys = refl

@@ -1,27 +1,26 @@
 -- Rewriting the first redex of slots is rewriting the first one of the gates in them.
-use Rattle.std.proofs.Common.{◌≡◌, ℕ, ◌+◌, ◌<◌, ◌≤◌, Bool, true, false, cond, Some, List, length, map, get_or, take, refl, ap, sym, subst, ◌∙◌, arith}
+use Rattle.std.proofs.Common.{◌≡◌, ℕ, ◌<◌, Bool, true, false, cond, Some, List, length, ap, sym, subst, ◌∙◌, arith}
 use Rattle.std.specs.Prelude.{All}
 use Rattle.pq_gate.specs.declared.gate.Gate.{Gate}
 use Rattle.pq_links.specs.Slots.{AreSlots, gates_in, is_free}
 use Rattle.pq_rules.specs.Row.{RowView, IsSound}
 use Rattle.pq_rules.specs.Kinds.{row_numbered}
-use Rattle.pq_rules.specs.Renaming.{renamed}
 use Rattle.pq_match.specs.declared.looked.Looked.{Looked}
 use Rattle.pq_match.specs.declared.redex.Redex.{Redex}
 use Rattle.pq_match.specs.declared.runs.Run.{Run}
-use Rattle.pq_match.specs.Redex.{RedexView, IsRedex, HasNoRedex, last_place}
+use Rattle.pq_match.specs.Redex.{RedexView, IsRedex, HasNoRedex}
 use Rattle.pq_match.specs.First.{IsFirst}
-use Rattle.pq_match.specs.Found.{seen, IsFirstFound, IsRewritten, IsRedexOf, Rewrites}
+use Rattle.pq_match.specs.Found.{seen, IsFirstFound, IsRedexOf, Rewrites}
 use Rattle.pq_match.specs.Rewrite.{rewritten}
 use Rattle.pq_match.specs.Segment.{SegView, held}
-use Rattle.pq_match.specs.Seek.{AreTried, note_at, HasFailed}
+use Rattle.pq_match.specs.Seek.{AreTried}
 use Rattle.pq_match.specs.Work.{IsPlaced, IsExchanged, IsRun, IsFirstRewritten, IsFreeRun, MarksPlaces, AreKeptApart}
 use Rattle.pq_match.proofs.Moving.{rewriting_shortens}
 use Rattle.pq_match.proofs.OneFirst.{row_sound}
 use Rattle.pq_match.proofs.Keeping.{tried_apart}
 use Rattle.pq_match.proofs.Placed.{run_freed, changes_at, stays_before}
 use Rattle.pq_match.proofs.Ranks.{rank, slot_of, are_ranked}
-use Rattle.pq_match.proofs.RankedRedexes.{moved, up_redex, up_first, up_none}
+use Rattle.pq_match.proofs.RankedRedexes.{moved, up_first, up_none}
 use Rattle.pq_match.proofs.RankedRewriting.{rewritten_slots}
 
 -- a redex that was found stands where its row's gates do

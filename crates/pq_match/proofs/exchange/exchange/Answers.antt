@@ -1,7 +1,6 @@
-use Rattle.std.proofs.Common.{ℕ, List, subst, sym, ap, map}
+use Rattle.std.proofs.Common.{List, subst, sym}
 use Rattle.pq_gate.specs.declared.gate.Gate.{Gate}
 use Rattle.pq_gate.specs.Circuit.{IsCircuit}
-use Rattle.pq_rules.specs.Renaming.{renamed}
 use Rattle.pq_match.specs.Work.{AreGaps, AreFilled}
 use Rattle.pq_match.proofs.Placed.{circuit_wider, gaps_replacement, replacement_read, chosen_below}
 use Rattle.pq_match.proofs.exchange.exchange.Goals as goal

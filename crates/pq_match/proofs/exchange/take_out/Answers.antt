@@ -1,4 +1,4 @@
-use Rattle.std.proofs.Common.{rules, ◌<◌, arith, length}
+use Rattle.std.proofs.Common.{rules, arith}
 use Rattle.pq_match.proofs.Exchanging.{freed_more, gaps_more, still_there, own_wires}
 use Rattle.pq_match.proofs.exchange.take_out.Goals as goal
 

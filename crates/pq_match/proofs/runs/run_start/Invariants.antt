@@ -1,4 +1,4 @@
-use Rattle.std.proofs.Common.{◌<◌, ◌≤◌}
+use Rattle.std.proofs.Common.{◌≤◌}
 use Rattle.pq_match.specs.Work.{AreSpare}
 use Rattle.pq_match.proofs.runs.run_start.Given as goal
 

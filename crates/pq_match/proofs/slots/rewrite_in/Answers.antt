@@ -1,10 +1,7 @@
-use Rattle.std.proofs.Common.{◌≡◌, ◌<◌, ◌≤◌, ℕ, Some, List, length, sym, ap, ◌∙◌, subst, arith}
+use Rattle.std.proofs.Common.{◌<◌, length, sym, ap, ◌∙◌, arith}
 use Rattle.std.specs.Option.{option_copied}
-use Rattle.pq_gate.specs.declared.gate.Gate.{Gate}
 use Rattle.pq_links.specs.Slots.{gates_in}
-use Rattle.pq_rules.specs.Row.{RowView}
 use Rattle.pq_match.specs.Found.{seen}
-use Rattle.pq_match.specs.Work.{IsRun}
 use Rattle.pq_match.proofs.Working.{exchanged_first, exchanged_fewer, exchanged_tried}
 use Rattle.pq_match.proofs.slots.rewrite_in.Goals as goal
 

@@ -1,4 +1,4 @@
-use Rattle.std.proofs.Common.{◌≡◌, take, vec_len, vec_capacity}
+use Rattle.std.proofs.Common.{◌≡◌, take, vec_capacity}
 use Rattle.pq_links.specs.Slots.{gates_in}
 use Rattle.pq_match.proofs.spread.close_up.Given as goal
 

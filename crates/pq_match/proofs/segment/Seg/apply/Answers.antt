@@ -1,4 +1,4 @@
-use Rattle.std.proofs.Common.{◌≡◌, ℕ, ◌<◌, Some, List, length, length-take, get_or, take, sym, ap, ◌∙◌, subst, arith}
+use Rattle.std.proofs.Common.{◌≡◌, Some, List, take, sym, ap, ◌∙◌, subst, arith}
 use Rattle.std.specs.Option.{option_copied}
 use Rattle.pq_gate.specs.declared.gate.Gate.{Gate}
 use Rattle.pq_rules.specs.Row.{RowView, IsSound}
@@ -6,13 +6,6 @@ use Rattle.pq_match.specs.Redex.{IsMatch}
 use Rattle.pq_match.specs.Found.{seen}
 use Rattle.pq_match.specs.Rewrite.{rewritten}
 use Rattle.pq_match.proofs.Rewriting.{cut_front}
-use Rattle.std.proofs.lemmas.List.{get_or-take}
-use Rattle.pq_links.proofs.Pushing.{all_written}
-use Rattle.pq_match.specs.declared.looked.Looked.{Looked}
-use Rattle.pq_match.specs.Segment.{SegView}
-use Rattle.pq_match.specs.Seek.{BeginAlike, AreKept}
-use Rattle.pq_match.proofs.OneFirst.{last_inside}
-use Rattle.pq_match.proofs.Starting.{front_kept, tried_kept}
 use Rattle.pq_match.proofs.segment.Seg.apply.Goals as goal
 
 pub returns-clause-rewrites : goal.returns-clause-rewrites
