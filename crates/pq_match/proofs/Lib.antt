@@ -42,7 +42,7 @@ pub mod WakingWords
 pub mod Spreading
 pub mod RunsAround
 pub mod Exchanging
-pub mod Keeping
+pub mod MarkedPlaces
 pub mod Placed
 pub mod Settling
 pub mod Quieting

@@ -1,5 +1,5 @@
 -- No redex begins at a start that is settled.
-use Rattle.std.proofs.Common.{◌≡◌, ℕ, ◌+◌, ◌<◌, ◌≤◌, ◌⊎◌, inl, inr, true, List, [], length, get_or, refl, sym, ap, subst, ◌∙◌, arith}
+use Rattle.std.proofs.Common.{◌≡◌, ℕ, ◌+◌, ◌<◌, ◌≤◌, ◌⊎◌, inl, inr, true, List, [], ◌∷◌, length, get_or, refl, sym, ap, subst, ◌∙◌, arith}
 use Rattle.std.specs.Prelude.{All}
 use Rattle.std.proofs.lemmas.Bool.{cases_eq, cases_lt}
 use Rattle.pq_gate.specs.declared.gate.Gate.{Gate}
@@ -102,6 +102,10 @@ no_candidates {rules} {slots} {start} looked sound free = record {
   rise = λ i j less below. absurd (omega arith);
   all = λ other are alike redex is at. absurd (((none_at_free looked sound free).none other are alike).none redex is at);
 }
+
+pub no_numbers : (numbers : List ℕ) → length numbers ≡ 0 → numbers ≡ []
+no_numbers [] none = refl
+no_numbers (number ∷ rest) none = absurd (omega arith)
 
 -- and none begins there where no row admits what is seen next
 pub still_ahead : (rules : List RowView) (slots : List Gate) (start one other : ℕ) (near far : Seen) → IsNextOn slots (last_wire (gate_at slots start)) (start + 1) one →

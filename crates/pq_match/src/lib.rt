@@ -18,7 +18,6 @@ mod spread;
 mod starts;
 #[cfg(test)]
 mod tests;
-mod tried;
 mod waiting;
 mod waking;
 mod words;

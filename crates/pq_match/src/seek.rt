@@ -1,7 +1,7 @@
 //! The search of one start along the wires, over slots with the next places on the wires. It says how far it looked
 //! and at which wires.
 
-ghost use Rattle.std.specs.Prelude.{◌≡◌, ◌≢◌, ℕ, ◌+◌, ◌-◌, ◌<◌, ◌≤◌, [], length, slice_index, slice_set, true, ◌⊎◌};
+ghost use Rattle.std.specs.Prelude.{◌≡◌, ◌≢◌, ℕ, ◌+◌, ◌-◌, ◌<◌, ◌≤◌, length, slice_index, slice_set, true, ◌⊎◌};
 ghost use Rattle.pq_gate.specs.Circuit.{IsCircuit};
 ghost use Rattle.pq_gate.specs.Commuting.{Touches};
 ghost use Rattle.pq_links.specs.Links.{IsNextOn};
@@ -51,7 +51,7 @@ pub fn rows_ahead<'a>(
     requires start { start < length gates.now }
     ensures more { LooksAtMore looked.old looked.new }
     ensures candidates { AreCandidates rules.now gates.now start looked.new result.now }
-    ensures still { result.now ≡ [] → IsStill rules.now gates.now start }
+    ensures still { length result.now ≡ 0 → IsStill rules.now gates.now start }
 {
     let gate = gates[start as usize];
     let wire = gate.last_wire();

@@ -1,6 +1,6 @@
 //! Which starts of a search wait, and what is noted of those that failed.
 
-ghost use Rattle.std.specs.Prelude.{◌≡◌, ◌≢◌, ℕ, ◌+◌, ◌*◌, ◌<◌, ◌≤◌, ◌⊎◌, ◌↔◌, true, false, bit_and, length, slice_index, IfOk, IfSome, IsNone};
+ghost use Rattle.std.specs.Prelude.{◌≡◌, ◌≢◌, ℕ, ◌+◌, ◌*◌, ◌<◌, ◌≤◌, ◌⊎◌, ◌↔◌, true, false, bit_and, length, slice_index, IfOk, IfSome, IfNone};
 ghost use Rattle.std.specs.Int.{bit_at};
 ghost use Rattle.pq_match.specs.Waiting.{HasNumber, IsWaiting, IsNotedFailed, noted, IsSameOf, WaitMore, AreWoken, AreMet};
 
@@ -72,7 +72,7 @@ impl Starts {
         ensures some { IfSome result (λ start. IsWaiting self.new start) }
         ensures inside { IfSome result (λ start. start < end) }
         ensures least { IfSome result (λ start. (before : ℕ) → before < start → IsWaiting self.new before → ⊥) }
-        ensures none { IsNone result → (start : ℕ) → start < end → IsWaiting self.new start → ⊥ }
+        ensures none { IfNone result ((start : ℕ) → start < end → IsWaiting self.new start → ⊥) }
         ensures same { self.new ≡ self.old }
     {
         let start = least_from(self.waiting.as_slice(), self.lowest as usize);

@@ -10,9 +10,23 @@ ghost use Rattle.pq_match.specs.Waiting.{IsWaiting, WaitMore};
 ghost use Rattle.pq_match.specs.Work.{AreWhole, MarksPlaces, AreTakenAt};
 ghost use Rattle.pq_match.specs.Settled.{AwaitRewriting, AwaitAround, AwaitOn, AwaitBefore, AwaitBetween, AreSameBut, IsUsedAt};
 
+use crate::looked::Looked;
 use crate::waiting::Starts;
 use pq_gate::Gate;
 use pq_links::{Chains, FAR, NO_WIRE, next_on};
+
+/// The bits of the wires of the gates at the places.
+#[tactic(auto, using(crate::proofs::MarkedPlaces::marks_none, crate::proofs::MarkedPlaces::marks_more, crate::proofs::MarkedPlaces::marks_all))]
+pub fn wires_at(slots: &[Gate], places: &[u32]) -> u64
+    requires { All (λ place. place < length slots.now) places.now }
+    ensures { MarksPlaces slots.now places.now result }
+{
+    let mut looked = Looked::nowhere();
+    for index in 0..places.len() {
+        looked.mark_gate(slots[places[index] as usize]);
+    }
+    looked.mask
+}
 
 impl Starts {
     /// Before a rewriting that frees the slots at the places, whose gates' wires the mask has, and fills so many from

@@ -7,7 +7,7 @@ use Rattle.pq_match.specs.Redex.{gate_at}
 use Rattle.pq_match.specs.Seek.{IsMarked, IsSeenAt}
 use Rattle.pq_match.proofs.Marking.{looks_on, near_more}
 use Rattle.pq_match.proofs.SeekRow.{admitting_candidates}
-use Rattle.pq_match.proofs.Settling.{no_candidates, still_ahead}
+use Rattle.pq_match.proofs.Settling.{no_candidates, no_numbers, still_ahead}
 use Rattle.pq_match.proofs.seek.rows_ahead.Goals as goal
 
 pub returns-then-wire-clause-candidates : goal.returns-then-wire-clause-candidates
@@ -46,4 +46,4 @@ returns-clause-still c none =
     (λ past. (let at = c.place_behind-far.ensures.past past in let few = c.requires.linked.few in omega arith))
     (subst (λ (w : ℕ). IsSeenAt gates w c.next_on-near.result c.see-one.result) wire c.see-one.ensures)
     (subst (λ (w : ℕ). IsSeenAt gates w c.place_behind-far.result c.see-other.result) wire c.see-other.ensures)
-    (sym c.rows_admitting.ensures.numbers ∙ none)
+    (sym c.rows_admitting.ensures.numbers ∙ no_numbers c.rows_admitting.result.now none)
