@@ -13,10 +13,11 @@ pub mod Growing
 pub mod GrowingWalk
 pub mod GrowingSkips
 pub mod Marking
-pub mod Staying
 pub mod CursorLaws
 pub mod LookingAlike
 pub mod Seeking
+pub mod TyingLaws
+pub mod Tying
 pub mod SearchWires
 pub mod SearchTouches
 pub mod SearchNear
@@ -27,6 +28,7 @@ pub mod SearchMatch
 pub mod SearchRow
 pub mod SearchNumbers
 pub mod SearchFrom
+pub mod SearchAdmits
 pub mod SearchWithin
 pub mod Roles
 pub mod Admitting

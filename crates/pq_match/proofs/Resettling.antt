@@ -1,6 +1,8 @@
 -- What is known of starts stays known over a rewriting of slots.
-use Rattle.std.proofs.Common.{◌≡◌, ◌≢◌, ℕ, zero, suc, ◌+◌, ◌<◌, ◌≤◌, ◌⊎◌, inl, inr, Bool, true, false, List, length, map, get_or, bit_and, refl, sym, ap, subst, ◌∙◌, arith}
+use Rattle.std.proofs.Common.{◌≡◌, ◌≢◌, ℕ, zero, suc, ◌+◌, ◌%◌, ◌<◌, ◌≤◌, ◌⊎◌, inl, inr, Bool, true, false, List, length, map, get_or, bit_and, min, refl, sym, ap, subst, ◌∙◌, arith}
+use Rattle.std.specs.Int.{bit_at}
 use Rattle.std.proofs.lemmas.Bool.{cases_eq, cases_lt, cases_Bool}
+use Rattle.std.proofs.lemmas.Nat.Bits.{bit_at_and, bit_at-zero}
 use Rattle.pq_gate.specs.declared.gate.Gate.{Gate}
 use Rattle.pq_gate.specs.Commuting.{Touches}
 use Rattle.pq_gate.specs.Ports.{last_wire}
@@ -13,7 +15,7 @@ use Rattle.pq_rules.specs.Renaming.{renamed}
 use Rattle.pq_match.specs.declared.looked.Looked.{Looked}
 use Rattle.pq_match.specs.declared.runs.Run.{Run}
 use Rattle.pq_match.specs.Redex.{gate_at, is_chosen, last_place}
-use Rattle.pq_match.specs.Seek.{HasBit, LookAlike, HasFailed, AreChangedOn}
+use Rattle.pq_match.specs.Seek.{HasBit, IsMarked, LookAlike, HasFailed}
 use Rattle.pq_match.specs.Work.{IsPlaced, IsExchanged, IsRun, IsSpare, ChangesAt, MarksPlaces}
 use Rattle.pq_match.specs.Waiting.{StartsView, IsWaiting, IsNotedFailed, noted}
 use Rattle.pq_match.specs.Settled.{IsQuiet, IsFailed, IsSettled, AreSettled, TwoStandBefore, IsUsedAt, AwaitRewriting}
@@ -22,8 +24,15 @@ use Rattle.pq_match.proofs.Quieting.{SameOn, quiet_kept}
 use Rattle.pq_match.proofs.RankedRedexes.{free_is, chosen_somewhere}
 use Rattle.pq_match.proofs.RankedRewriting.{behind_last}
 use Rattle.pq_match.proofs.Starting.{failed_alike}
-use Rattle.pq_match.proofs.Staying.{stays_before, stays_behind, stays_apart}
 
+-- no wire is in two masks that are apart
+both_marked : (one other wire : ℕ) → bit_and one other ≡ 0 → HasBit one wire → HasBit other wire → ⊥
+both_marked one other wire apart left right =
+    let bit : bit_at (bit_and one other) (wire % 64) ≡ min (bit_at one (wire % 64)) (bit_at other (wire % 64)) = bit_at_and one other (wire % 64) in
+    let none : bit_at (bit_and one other) (wire % 64) ≡ 0 = ap (λ n. bit_at n (wire % 64)) apart ∙ bit_at-zero (wire % 64) in
+    omega (arith, bit, none, left, right)
+
+-- whether a chosen gate uses a wire
 used_more : (slots : List Gate) (places : List ℕ) (wire count : ℕ) → IsUsedAt slots places count wire → IsUsedAt slots places (suc count) wire
 used_more slots places wire count used = record { at = used.at; one = used.one; below = (let b : used.at < count = used.below in omega arith); is = used.is }
 
@@ -82,26 +91,22 @@ module _ (rules : List RowView) (slots : List Gate) (free : AreSlots slots) (row
       changes : ChangesAt slots new (get_or places 0 0) run.end mask
       changes = changes_at slots free row sound wires places placed new run mask is done marks
 
-      changed : (last : ℕ) → ((p : ℕ) → last < p → gate_at slots p ≡ gate_at new p) → AreChangedOn (get_or places 0 0) last mask slots new
-      changed last behind = record {
-        whole = whole_new;
-        before = λ p below. sym (changes.before p below);
-        behind = λ p less. sym (behind p less);
-        wires = λ p w valid uses. flip p w (changes.on p w valid uses);
+      alike : ((p w : ℕ) → start < p → p < looked.reach → IsMarked looked.mask w → Touches (gate_at slots p) w ⊎ Touches (gate_at new p) w → gate_at slots p ≡ gate_at new p) →
+          LookAlike start looked slots new
+      alike stay = record {
+        long = λ p near. (let w : length new ≡ length slots = whole_new in (λ below. omega arith, λ below. omega arith));
+        first = same;
+        same = stay;
       }
-        where
-          flip : (p w : ℕ) → (gate_at slots p ≡ gate_at new p) ⊎ HasBit mask w → (gate_at new p ≡ gate_at slots p) ⊎ HasBit mask w
-          flip p w (inl is_same) = inl (sym is_same)
-          flip p w (inr has) = inr has
 
-      at_end : (p : ℕ) → run.end < p → gate_at slots p ≡ gate_at new p
-      at_end p less = changes.behind p (omega arith)
+      apart_same : bit_and looked.mask mask ≡ 0 → (p w : ℕ) → IsMarked looked.mask w → (gate_at slots p ≡ gate_at new p) ⊎ HasBit mask w → gate_at slots p ≡ gate_at new p
+      apart_same apart p w marked (inl is_same) = is_same
+      apart_same apart p w marked (inr has) = absurd (both_marked looked.mask mask w apart marked.1 has)
 
       pub failed_kept : ((looked.reach ≤ get_or places 0 0) ⊎ (bit_and looked.mask mask ≡ 0)) ⊎ ((last_place places < start) × (run.start + length row.replacement ≤ start)) → HasFailed rules new start looked
-      failed_kept (inl (inl short)) = failed_alike ((stays_before start looked (get_or places 0 0) run.end mask short).alike slots new (changed run.end at_end) (sym same)) failed
-      failed_kept (inl (inr apart)) = failed_alike ((stays_apart start looked (get_or places 0 0) run.end mask apart).alike slots new (changed run.end at_end) (sym same)) failed
-      failed_kept (inr (late, out)) =
-          failed_alike ((stays_behind start looked (get_or places 0 0) start mask (omega arith)).alike slots new (changed start (λ p less. behind_same start late out p (omega arith))) (sym same)) failed
+      failed_kept (inl (inl short)) = failed_alike (alike (λ p w behind near marked uses. changes.before p (omega arith))) failed
+      failed_kept (inl (inr apart)) = failed_alike (alike (λ p w behind near marked uses. apart_same apart p w marked (changes.on p w marked.0 uses))) failed
+      failed_kept (inr (late, out)) = failed_alike (alike (λ p w behind near marked uses. behind_same start late out p (omega arith))) failed
 
     -- a quiet start
     module _ (quiet : IsQuiet rules slots start) (valid : last_wire (gate_at slots start) ≢ no_wire) where

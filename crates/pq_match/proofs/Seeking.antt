@@ -3,17 +3,19 @@ use Rattle.std.proofs.Common.{◌≡◌, ℕ, ◌+◌, ◌-◌, ◌<◌, ◌≤�
 use Rattle.std.proofs.lemmas.Bool.{cases_order}
 use Rattle.pq_gate.specs.declared.gate.Gate.{Gate}
 use Rattle.pq_gate.specs.Circuit.{IsCircuit}
+use Rattle.pq_gate.specs.Commuting.{Touches}
 use Rattle.pq_gate.specs.Kind.{kind_of}
 use Rattle.pq_links.specs.Slots.{AreSlots}
 use Rattle.pq_match.specs.declared.looked.Looked.{Looked}
 use Rattle.pq_match.specs.declared.cursors.Cursors.{Cursors}
 use Rattle.pq_match.specs.Redex.{gate_at}
-use Rattle.pq_match.specs.Search.{AreApart, AreAlike, IsFitting, IsPassable, IsGrown, AreEight}
-use Rattle.pq_match.specs.Seek.{MarksAll, LooksAtMore, LookAlike, HasNoFullAlike, IsKnownAt, AreLookedAt, IsAtCursor, AreCursors}
+use Rattle.pq_match.specs.Search.{AreApart, AreAlike, IsFitting, IsPassable, IsGrown, IsFull, Begins, AreEight}
+use Rattle.pq_match.specs.Seek.{MarksAll, LooksAtMore, LookAlike, HasNoFullAlike, IsKnownAt, AreLookedAt, IsAtCursor, AreCursors, AreMarked, AreAhead}
+use Rattle.pq_match.specs.Ties.{IsTiedBy}
 use Rattle.pq_match.proofs.CursorLaws.{cursor_known}
 use Rattle.pq_match.proofs.Growing.{put_before, put_at, nothing_fits, nothing_of_kind}
 use Rattle.pq_match.proofs.GrowingWalk.{IsWalked, walk_starts, walk_goes_on, walk_is_stuck, walk_ends}
-use Rattle.pq_match.proofs.GrowingSkips.{walk_passes}
+use Rattle.pq_match.proofs.GrowingSkips.{walk_leaves}
 use Rattle.pq_match.proofs.LookingAlike.{looks_alike, alike_less, as_long, same_anywhere, not_before, chosen_same, apart_on, commutes_on, commutes_back}
 
 -- a gate fits as well where the chosen gates are the same
@@ -67,23 +69,34 @@ pub alike_starts : {gates pattern : List Gate} {looked : Looked} {places : List 
     AreLookedAt gates looked places count → IsWalkedAlike gates pattern looked places count (get_or places (count - 1) 0 + 1)
 alike_starts some next grown are = record { walked = λ other slots alike. walk_starts some next (grown_on alike refl grown are) }
 
--- past places that share no wire with the chosen ones,
-pub alike_passes : (gates pattern : List Gate) (places : List ℕ) (count place next : ℕ) (less looked : Looked) (free : Bool) → AreSlots gates →
+-- past places that share no wire with the chosen ones, and where the next gate can't stand,
+pub alike_passes : (gates pattern : List Gate) (places : List ℕ) (count place next : ℕ) (less looked : Looked) (free : Bool) {cursors : Cursors} → AreSlots gates →
     IsWalkedAlike gates pattern less places count place → LooksAtMore less looked → 0 < count → count < length pattern → IsGrown gates pattern (length gates) places count →
-    AreLookedAt gates looked places count → next < looked.reach → place ≤ next → next ≤ length gates → (free ≡ true → MarksAll looked.mask) →
-    (free ≡ false → ¬ ((before : ℕ) → before < count → AreApart (gate_at pattern before) (gate_at pattern count))) →
+    AreLookedAt gates looked places count → next < looked.reach → place ≤ next → next ≤ length gates → AreAhead next cursors → (free ≡ true → MarksAll looked.mask) →
+    (free ≡ false → IsTiedBy gates pattern looked places count place cursors) →
     ((p : ℕ) → place ≤ p → p < next → (s : ℕ) → s < count → AreApart (gate_at gates (get_or places s 0)) (gate_at gates p)) →
     ((p : ℕ) → place ≤ p → p < next → free ≡ true → kind_of (gate_at gates p) ≡ kind_of (gate_at pattern count) → ⊥) →
     IsWalkedAlike gates pattern looked places count next
-alike_passes gates pattern places count place next less looked free slots_here walked looks some more grown are near from inside marks bound apart other_kind = record {
+alike_passes gates pattern places count place next less looked free {cursors} slots_here walked looks some more grown are near from inside ahead marks tied apart other_kind = record {
   walked = λ other slots alike.
       (let before = walked.walked other slots (alike_less looks alike) in
       let behind : get_or places 0 0 < place = walked_behind some before in
-      walk_passes other pattern (length other) places count place next free before more from bound
+      walk_leaves other pattern (length other) places count place next before from
       (λ p above below s s_below. apart_on alike refl grown are s p s_below (omega arith) (omega arith) (apart p above below s s_below))
-      (λ p above below is same.
-      other_kind p above below is (ap kind_of (same_anywhere alike slots_here slots (marks is) p (omega arith) (omega arith) (omega arith)) ∙ same)));
+      (λ full is begins above below. never other slots alike behind full is begins above below free refl));
 }
+  where
+    never : (other : List Gate) → AreSlots other → LookAlike (get_or places 0 0) looked gates other → get_or places 0 0 < place → (full : List ℕ) → IsFull other pattern (length other) full →
+        Begins places count full → place ≤ get_or full count 0 → get_or full count 0 < next → (b : Bool) → free ≡ b → ⊥
+    never other slots alike behind full is begins above below true marked =
+        other_kind (get_or full count 0) above below marked
+        (ap kind_of (same_anywhere alike slots_here slots (marks marked) (get_or full count 0) (omega arith) (omega arith) (omega arith)) ∙ (is.fitting count more).kind)
+    never other slots alike behind full is begins above below false bound =
+        let tie = tied bound in
+        let touches = tie.on other slots alike full is begins in
+        let same = alike.same (get_or full count 0) _ (omega arith) (omega arith) tie.marked (inr touches) in
+        let upto : next ≤ get_or cursors.next tie.cursor 0 = ahead tie.cursor tie.below in
+        tie.next.none (get_or full count 0) above (omega arith) (omega arith) (subst (λ (g : Gate). Touches g (get_or cursors.wires tie.cursor 0)) (sym same) touches)
 
 -- one place further,
 pub alike_goes_on : {gates pattern : List Gate} {less looked : Looked} {places : List ℕ} {count place : ℕ} → IsWalkedAlike gates pattern less places count place → LooksAtMore less looked →
@@ -155,10 +168,10 @@ alike_of_kind {gates} {pattern} {looked} {places} {count} {place} next eight roo
 
 -- A place of the walk is known: a cursor stands there, or all wires are marked.
 pub place_known : {gates pattern : List Gate} {looked : Looked} {places : List ℕ} {count place : ℕ} {cursors : Cursors} (free : Bool) → AreSlots gates → IsCircuit 3 pattern → count < length pattern →
-    AreCursors gates pattern places count place cursors → AreLookedAt gates looked places count → 0 < count → AreEight places count → count < 8 →
+    AreCursors gates pattern places count place cursors → AreMarked gates looked cursors → 0 < count → AreEight places count → count < 8 →
     IsWalkedAlike gates pattern looked places count place → place < length gates → place < looked.reach → (free ≡ true → MarksAll looked.mask) →
     (free ≡ false → place < length gates → IsAtCursor place cursors) → IsKnownAt gates (get_or (set places count place) 0 0) looked place
-place_known {gates} {pattern} {looked} {places} {count} {place} {cursors} free slots on next are looked_at some eight room walked inside near wide stands =
+place_known {gates} {pattern} {looked} {places} {count} {place} {cursors} free slots on next are marked some eight room walked inside near wide stands =
     subst (λ (p : ℕ). IsKnownAt gates p looked place) (sym (same_start place some eight room)) (by free refl)
   where
     behind : get_or places 0 0 < place
@@ -166,4 +179,4 @@ place_known {gates} {pattern} {looked} {places} {count} {place} {cursors} free s
 
     by : (b : Bool) → free ≡ b → IsKnownAt gates (get_or places 0 0) looked place
     by true is = record { same = λ other slots_other alike. same_anywhere alike slots slots_other (wide is) place behind near inside }
-    by false is = cursor_known on next are looked_at (stands is inside) behind inside near
+    by false is = cursor_known on next are marked (stands is inside) behind inside near

@@ -14,7 +14,9 @@ pub mod Rewrite
 pub mod Found
 pub mod Seek
 pub mod Work
+pub mod Ties
 pub mod Segment
 pub mod Search
 pub mod Waiting
 pub mod Settled
+pub mod Within

@@ -107,14 +107,19 @@ pub record AreLinkedSlots (slots : List Gate) (ahead : List Sides) : Type 0 wher
   pub next : AreNext slots ahead
 
 -- Each wire of the pattern's first `count` gates has the wire that it is led to, which isn't that of free slots, and the
--- least place from `from` on whose gate uses that. What stands before the end is that of such a wire.
+-- least place from `from` on whose gate uses that. Whatever of the three stands before the end does so on its wire.
 pub record AreCursors (gates pattern : List Gate) (places : List ℕ) (count from : ℕ) (cursors : Cursors) : Type 0 where
   pub taken : (s : ℕ) → s < count → IsTaken (gate_at gates (slice_index places s))
   pub leads : (s : ℕ) (one : Bool) → s < count →
       slice_index cursors.wires (wire_of one (gate_at pattern s)) ≡ wire_of one (gate_at gates (slice_index places s))
   pub next : (s : ℕ) (one : Bool) → s < count →
       IsNextOn gates (wire_of one (gate_at gates (slice_index places s))) from (slice_index cursors.next (wire_of one (gate_at pattern s)))
-  pub used : (v : ℕ) → v < 3 → slice_index cursors.next v < length gates → (s : ℕ) × (one : Bool) × (s < count) × (wire_of one (gate_at pattern s) ≡ v)
+  pub standing : (v : ℕ) → v < 3 → slice_index cursors.next v < length gates →
+      (slice_index cursors.wires v ≢ no_wire) × IsNextOn gates (slice_index cursors.wires v) from (slice_index cursors.next v)
+
+-- the wires of those that stand before the end are marked
+pub record AreMarked (gates : List Gate) (looked : Looked) (cursors : Cursors) : Type 0 where
+  pub marked : (v : ℕ) → v < 3 → slice_index cursors.next v < length gates → HasBit looked.mask (slice_index cursors.wires v)
 
 -- none of the three stands before this place
 abbrev pub AreAhead : ℕ → Cursors → Type 0
@@ -148,18 +153,6 @@ note_at tried start = slice_index_or tried start (record { reach = 0; mask = 0 }
 -- looked at that found no redex there.
 pub record AreTried (rules : List RowView) (slots : List Gate) (tried : List Looked) : Type 0 where
   pub failed : (start : ℕ) → start < length tried → 0 < (note_at tried start).reach → HasFailed rules slots start (note_at tried start)
-
--- From the one list to the other gates came and went only at places from the first to the last of these, and only on wires that
--- the mask marks.
-pub record AreChangedOn (first last mask : ℕ) (old new : List Gate) : Type 0 where
-  pub whole : length new ≡ length old
-  pub before : (p : ℕ) → p < first → gate_at new p ≡ gate_at old p
-  pub behind : (p : ℕ) → last < p → gate_at new p ≡ gate_at old p
-  pub wires : (p w : ℕ) → w ≢ no_wire → Touches (gate_at old p) w ⊎ Touches (gate_at new p) w → (gate_at new p ≡ gate_at old p) ⊎ HasBit mask w
-
--- so they look alike to this search, where they have the same gate at the start
-pub record StaysOver (start : ℕ) (looked : Looked) (first last mask : ℕ) : Type 0 where
-  pub alike : (old new : List Gate) → AreChangedOn first last mask old new → gate_at new start ≡ gate_at old start → LookAlike start looked old new
 
 -- what looked at no place from `first` on is kept
 pub record AreKept (first : ℕ) (old new : List Looked) : Type 0 where

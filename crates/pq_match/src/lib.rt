@@ -18,6 +18,7 @@ mod spread;
 mod starts;
 #[cfg(test)]
 mod tests;
+mod ties;
 mod waiting;
 mod waking;
 mod words;

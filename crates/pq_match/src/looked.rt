@@ -1,9 +1,9 @@
 //! What a search looked at.
 
-ghost use Rattle.std.specs.Prelude.{◌≡◌, ◌+◌, ◌<◌, Bool, true};
+ghost use Rattle.std.specs.Prelude.{◌≡◌, ◌+◌, ◌<◌, Bool};
 ghost use Rattle.pq_links.specs.Links.{far};
 ghost use Rattle.pq_links.specs.Wires.{wire_of};
-ghost use Rattle.pq_match.specs.Seek.{HasBit, MarksAll, LooksAtMore, StaysOver};
+ghost use Rattle.pq_match.specs.Seek.{HasBit, MarksAll, LooksAtMore};
 
 use pq_gate::Gate;
 
@@ -67,30 +67,12 @@ impl Looked {
         self.mark(gate.last_wire());
     }
 
-    /// Marks all wires where the next gate is free to stand on any.
+    /// Marks all wires.
     #[tactic(auto, using(crate::proofs::Marking::ones_mark_all, crate::proofs::Marking::looks_at_all))]
-    pub fn widen(&mut self, free: bool)
+    pub fn mark_all(&mut self)
         ensures more { LooksAtMore self.old self.new }
-        ensures all { free ≡ true → MarksAll self.new.mask }
-        ensures reach { self.new.reach ≡ self.old.reach }
+        ensures all { MarksAll self.new.mask }
     {
-        if free {
-            self.mask = u64::MAX;
-        }
-    }
-
-    /// Whether what was found out from a start stays so where gates came and went only at places from the first to the
-    /// last of these, on wires that the mask marks, and not at the start. It may answer false where it does.
-    #[tactic(auto, using(crate::proofs::Staying::stays_before, crate::proofs::Staying::stays_behind, crate::proofs::Staying::stays_apart))]
-    pub fn stays(&self, start: u32, first: u32, last: u32, mask: u64) -> bool
-        ensures { result ≡ true → StaysOver start self.now first last mask }
-    {
-        if self.reach <= first {
-            return true;
-        }
-        if last <= start {
-            return true;
-        }
-        self.mask & mask == 0
+        self.mask = u64::MAX;
     }
 }

@@ -7,13 +7,14 @@ ghost use Rattle.pq_gate.specs.Commuting.{Touches};
 ghost use Rattle.pq_links.specs.Links.{IsNextOn};
 ghost use Rattle.pq_match.specs.Redex.{gate_at};
 ghost use Rattle.pq_match.specs.Search.{IsNext, IsGrown, AreEight};
-ghost use Rattle.pq_match.specs.Seek.{AreLinkedSlots, LooksAtMore, AreLookedAt, IsKnownAt, AreCursors, AreAhead, SeeksFrom, SeeksFull, Seeks, IsRowAt, IsClear, IsSeenAt};
+ghost use Rattle.pq_match.specs.Seek.{AreLinkedSlots, LooksAtMore, AreLookedAt, IsKnownAt, AreMarked, AreCursors, AreAhead, SeeksFrom, SeeksFull, Seeks, IsRowAt, IsClear, IsSeenAt};
 ghost use Rattle.pq_match.specs.Settled.{AreCandidates, IsStill};
 
 use crate::cursors::{Cursors, lead_to, move_on, next_place};
 use crate::looked::Looked;
 use crate::redex::Redex;
-use crate::search::{are_of_one_kind, fits, is_passable, stands_apart};
+use crate::search::{are_of_one_kind, fits, is_passable};
+use crate::ties::tie;
 use pq_gate::{Gate, Ports};
 use pq_limits::MAX_ROW_GATES;
 use pq_links::{FAR, NO_WIRE, Sides, next_on};
@@ -111,7 +112,7 @@ fn place_behind(gates: &[Gate], next: &[Sides], place: u32, wire: u32) -> u32
 }
 
 // what is seen at a place on a wire
-fn see(gates: &[Gate], place: u32, wire: u32) -> Seen
+pub(crate) fn see(gates: &[Gate], place: u32, wire: u32) -> Seen
     ensures { IsSeenAt gates.now wire place result }
 {
     if (place as usize) >= gates.len() {
@@ -188,6 +189,7 @@ fn choose(
     requires cursors { AreCursors gates.now pattern.now places.now count place cursors.now }
     requires ahead { AreAhead place cursors.now }
     requires looked { AreLookedAt gates.now looked.old places.now count }
+    requires marked { AreMarked gates.now looked.old cursors.now }
     requires near { place < looked.old.reach }
     requires known { IsKnownAt gates.now (slice_index (slice_set places.now count place) 0) looked.old place }
     ensures more { LooksAtMore looked.old looked.new }
@@ -231,6 +233,7 @@ fn choose_by_kind(
     requires cursors { AreCursors gates.now pattern.now places.now count place cursors.now }
     requires ahead { AreAhead place cursors.now }
     requires looked { AreLookedAt gates.now looked.old places.now count }
+    requires marked { AreMarked gates.now looked.old cursors.now }
     requires near { place < looked.old.reach }
     requires known { IsKnownAt gates.now (slice_index (slice_set places.now count place) 0) looked.old place }
     ensures more { LooksAtMore looked.old looked.new }
@@ -263,12 +266,14 @@ fn seek(
     requires cursors { AreCursors gates.now pattern.now places.now count (slice_index places.now (count - 1) + 1) cursors.now }
     requires ahead { AreAhead (slice_index places.now (count - 1) + 1) cursors.now }
     requires looked { AreLookedAt gates.now looked.old places.now count }
+    requires marked { AreMarked gates.now looked.old cursors.now }
     ensures more { LooksAtMore looked.old looked.new }
     ensures finds { SeeksFull gates.now pattern.now looked.new places.now count result }
 {
-    let free = stands_apart(pattern, count);
-    looked.widen(free);
     let mut moved = *cursors;
+    let Some(free) = tie(gates, next, pattern, places, count, &mut moved, looked) else {
+        return None;
+    };
     let mut place = next_place(gates, &moved, free, pattern[count], places[count - 1] + 1);
     looked.look_at(place);
     'walk: while (place as usize) < gates.len() {

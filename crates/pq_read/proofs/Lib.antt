@@ -8,6 +8,10 @@ pub mod Sizes
 pub mod Barriers
 pub mod Marks
 pub mod Pieces
+pub mod Splicing
+pub mod Leading
+pub mod Beginning
+pub mod Fed
 pub mod Answers
 pub mod Circuits
 pub mod Formed

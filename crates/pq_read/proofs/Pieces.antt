@@ -20,7 +20,7 @@ use Rattle.pq_read.specs.Faults.{◌>>=◌, refused, is_form}
 use Rattle.pq_read.specs.Environment.{Env, start}
 use Rattle.pq_read.specs.After.{header_at, put, statement_by, statement_at, piece_at, after}
 use Rattle.pq_read.specs.Pieces.{Cut, Front, Until, ends_with, ended_by, joined_to, cut}
-use Rattle.pq_read.specs.Reads.{is_done, read_pieces, read_tokens, read_of, Reads, IsRefusedFor}
+use Rattle.pq_read.specs.Reads.{is_done, read_pieces, read_tokens, read_of, Reads}
 use Rattle.pq_lex.specs.Lex.{tokens_of, first_form}
 use Rattle.pq_read.specs.Gives.{Fails, through, beyond}
 
@@ -242,12 +242,6 @@ pub read_fails : (error : ReadError) (options : Options) (E : Env) (ts : List To
     → Fails error (piece_at options E (through ts)) → is_done E ts ≡ false → 1 ≤ length ts → read_tokens options E ts ≡ total → Fails error total
 read_fails errors.OutOfMemory options E ts total h open_end some so_far = tt
 read_fails (errors.Refused f) options E ts total h open_end some so_far = sym so_far ∙ read_fault options E ts f h open_end some
-
-pub refused_for : (error : ReadError) (text : List ℕ) (options : Options) (ts : List TokenView) → ts ≡ tokens_of text
-    → Fails error (read_tokens options start ts) → IsRefusedFor text options error
-unfolding read_of
-refused_for errors.OutOfMemory text options ts e h = tt
-refused_for (errors.Refused f) text options ts e h = ap (read_tokens options start) (sym e) ∙ h
 
 pub reads_for : (text : List ℕ) (options : Options) (ts : List TokenView) (p q : ProgramView) → ts ≡ tokens_of text
     → read_tokens options start ts ≡ Ok p → q ≡ p → Reads text options q

@@ -11,9 +11,12 @@ pub mod Spans
 pub mod Listed
 pub mod Tails
 pub mod Marks
-pub mod Readers
+pub mod Drafts
 pub mod Expansion
 pub mod After
 pub mod Pieces
 pub mod Reads
 pub mod Gives
+pub mod Leads
+pub mod Begins
+pub mod Feeding

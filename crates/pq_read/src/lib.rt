@@ -4,7 +4,9 @@
 
 mod argument;
 mod barrier_wires;
+mod begun;
 mod declaration;
+mod draft;
 mod gate;
 mod header;
 mod laws;
@@ -13,6 +15,7 @@ mod program;
 mod reader;
 mod refusal;
 mod registers;
+mod statements;
 mod tail;
 mod tail_statement;
 mod token;
@@ -21,7 +24,7 @@ mod word;
 pub use laws::{programs_are_well_formed, texts_have_one_answer};
 pub use name::Name;
 pub use program::{Options, Program, RegList, Register, TailItem, TailList};
-pub use reader::read_text;
+pub use reader::{Reader, read_text};
 pub use refusal::{Kind, ReadError, Refusal};
 
 #[cfg(test)]

@@ -1,220 +1,110 @@
-ghost use Rattle.std.specs.Prelude.{◌≡◌, ◌≤◌, [], OnOk, IfOk, IfErr, true, length};
-ghost use Rattle.pq_lex.specs.Lex.{tokens};
+ghost use Rattle.std.specs.Prelude.{◌≡◌, ℕ, ◌+◌, ◌^◌, ◌<◌, ◌≤◌, List, [], ◌++◌, IfOk, IfErr, OnOk, length};
 ghost use Rattle.pq_text.specs.WellFormed.{WellFormed};
-ghost use Rattle.pq_lex.specs.Token.{seen};
-ghost use Rattle.pq_read.specs.declared.word.FirstWord.TheVariants.{Gate as KnownGate};
-ghost use Rattle.pq_read.specs.Environment.{view, start};
-ghost use Rattle.pq_read.specs.After.{statement_by, statement_at, piece_at};
-ghost use Rattle.pq_read.specs.Readers.{env_of};
-ghost use Rattle.pq_read.specs.Reads.{is_done, read_tokens, Reads, IsRefusedFor};
-ghost use Rattle.pq_read.specs.Gives.{Gives, left, later};
+ghost use Rattle.pq_read.specs.Environment.{view};
+ghost use Rattle.pq_read.specs.Reads.{Reads, IsRefusedFor};
+ghost use Rattle.pq_read.specs.Feeding.{StandsFor};
 
-use crate::declaration::read_declaration;
-use crate::gate::read_gate;
-use crate::header::{read_header, read_include};
+use crate::begun::{Begun, read_last, read_piece};
+use crate::draft::Draft;
 use crate::program::{Options, Program};
-use crate::refusal::{Kind, ReadError};
-use crate::registers::Registers;
-use crate::tail::Tail;
-use crate::tail_statement::{read_barrier, read_measure};
-use crate::token::{demand_word, refused};
-use crate::word::{FirstWord, GateWord, read_first_word};
-use pq_gate::{Gate, GateList};
-use pq_lex::{Lexer, Token};
-use pq_limits::{MAX_GATES, MAX_INPUT};
-use pq_list::RoomList;
-use std::alloc::Global;
+use crate::refusal::{ReadError, Refusal};
+use pq_limits::MAX_INPUT;
+use pq_list::OutOfMemory;
+use std::alloc::{AllocError, Global};
+use std::marker::Model;
 
-/// What has been read of a text.
+// What a reader holds of a text: the program as far as it has been read and the statement that isn't finished, or
+// the first fault.
+#[derive(Drop)]
+enum Progress {
+    Reading { draft: Draft, begun: Begun },
+    Refused(Refusal),
+}
+
+/// A reader that is fed a text in pieces. Of the text it holds at most the statement that isn't finished. Contracts
+/// see how it reads and how many bytes were fed, and say by `StandsFor` which text that was.
 #[derive(Drop)]
 pub struct Reader {
-    pub header: bool,
-    pub included: bool,
-    pub quantum: Registers,
-    pub classical: Registers,
-    pub gates: Vec<Gate>,
-    pub tail: Tail,
+    options: Options,
+    fed: u64,
+    progress: Progress,
+}
+
+impl Model for Reader {
+    ghost use Rattle.std.specs.Prelude.{◌≤◌};
+    ghost use Rattle.pq_limits.specs.declared.TheConstants.{MAX_INPUT};
+    ghost use Rattle.pq_read.specs.Feeding.{ReaderView, standing_of, IsHeld};
+
+    ghost Value = { ReaderView };
+
+    ghost view = { λ r. record { options = r.options; fed = r.fed; standing = standing_of r.progress } };
+
+    ghost invariant = { λ r. (r.fed ≤ MAX_INPUT) × IsHeld r.fed r.progress };
 }
 
 impl Reader {
-    /// Nothing has been read.
-    pub fn new(alloc: Global) -> Reader
-        ensures start { env_of result ≡ start }
-        ensures within { length result.gates.items ≤ MAX_GATES }
+    /// A reader that nothing was fed to. It takes no memory.
+    pub fn new(alloc: Global, options: Options) -> Reader
+        ensures options { result.options ≡ options }
+        ensures fed { result.fed ≡ 0 }
+        ensures text { StandsFor result [] }
     {
         Reader {
-            header: false,
-            included: false,
-            quantum: Registers::new(alloc),
-            classical: Registers::new(alloc),
-            gates: Vec::new(alloc),
-            tail: Tail::new(alloc),
+            options,
+            fed: 0,
+            progress: Progress::Reading {
+                draft: Draft::new(alloc),
+                begun: Begun::new(alloc),
+            },
         }
     }
 
-    /// The program that has been read.
-    pub fn into_program(self) -> Program
-        requires { length self.gates.items ≤ MAX_GATES }
-        ensures { view result ≡ (env_of self).program }
+    /// The reader of the text that was fed before followed by this piece; together they have at most 67,108,864
+    /// bytes. A refused text shows at `finish` alone.
+    pub fn feed(self, alloc: Global, piece: &[u8]) -> Result<Reader, OutOfMemory>
+        requires { self.fed + length piece.now ≤ MAX_INPUT }
+        ensures options { IfOk result (λ r. r.options ≡ self.options) }
+        ensures fed { IfOk result (λ r. r.fed ≡ self.fed + length piece.now) }
+        ensures text { IfOk result (λ r. (text : List ℕ) → StandsFor self text → StandsFor r (text ++ piece.now)) }
     {
         let Reader {
-            header: _,
-            included: _,
-            quantum,
-            classical,
-            gates,
-            tail,
+            options,
+            fed,
+            progress,
         } = self;
-        Program {
-            qregs: RoomList::of(quantum.into_list()),
-            cregs: RoomList::of(classical.into_list()),
-            gates: GateList::of(gates),
-            tail: RoomList::of(tail.into_items()),
-        }
+        let progress = match progress {
+            Progress::Reading { mut draft, begun } => {
+                match read_piece(alloc, &mut draft, begun, piece, options) {
+                    Ok(begun) => Progress::Reading { draft, begun },
+                    Err(ReadError::Refused(refusal)) => Progress::Refused(refusal),
+                    Err(ReadError::OutOfMemory) => return Err(AllocError),
+                }
+            }
+            Progress::Refused(refusal) => Progress::Refused(refusal),
+        };
+        Ok(Reader {
+            options,
+            fed: fed + piece.len() as u64,
+            progress,
+        })
     }
 
-    // A known gate's statement after its word.
-    fn gate(
-        &mut self,
-        lexer: &mut Lexer,
-        options: Options,
-        token: &Token,
-        word: GateWord,
-    ) -> Result<(), ReadError>
-        requires { length self.old.gates.items ≤ MAX_GATES }
-        ensures read { Gives (λ _. (env_of self.new, [])) result
-            (statement_by (KnownGate word) options (env_of self.old) (seen token.now) (left lexer.old)) }
-        ensures later { OnOk result (tokens lexer.new ≡ later lexer.old) }
-        ensures within { OnOk result (length self.new.gates.items ≤ MAX_GATES) }
+    /// The program that the text stands for which was fed. It is well formed. Where that text isn't accepted, the
+    /// answer is its first fault. Want of memory may come at any moment before, and is then the answer.
+    pub fn finish(self, alloc: Global) -> Result<Program, ReadError>
+        ensures read { IfOk result (λ p. (text : List ℕ) → StandsFor self text → Reads text self.options (view p)) }
+        ensures well_formed { IfOk result (λ p. (text : List ℕ) → StandsFor self text → WellFormed (view p)) }
+        ensures refused { IfErr result (λ e. (text : List ℕ) → StandsFor self text → IsRefusedFor text self.options e) }
     {
-        self.tail.check_gate(options, token)?;
-        read_gate(lexer, word, &self.quantum, &mut self.gates)?;
-        self.tail.clear();
-        Ok(())
-    }
-
-    // A statement after its first word.
-    fn statement_by(
-        &mut self,
-        alloc: Global,
-        lexer: &mut Lexer,
-        options: Options,
-        token: &Token,
-        first: FirstWord,
-    ) -> Result<(), ReadError>
-        requires { length self.old.gates.items ≤ MAX_GATES }
-        ensures read { Gives (λ _. (env_of self.new, [])) result
-            (statement_by first options (env_of self.old) (seen token.now) (left lexer.old)) }
-        ensures later { OnOk result (tokens lexer.new ≡ later lexer.old) }
-        ensures within { OnOk result (length self.new.gates.items ≤ MAX_GATES) }
-    {
-        match first {
-            FirstWord::Include => {
-                read_include(lexer)?;
-                self.included = true;
-                Ok(())
-            }
-            FirstWord::Qreg => {
-                let register = read_declaration(
-                    alloc,
-                    lexer,
-                    Kind::TooManyQubits,
-                    &self.quantum,
-                    &self.classical,
-                    &self.quantum,
-                )?;
-                self.quantum.push(alloc, register)?;
-                Ok(())
-            }
-            FirstWord::Creg => {
-                let register = read_declaration(
-                    alloc,
-                    lexer,
-                    Kind::TooManyBits,
-                    &self.quantum,
-                    &self.classical,
-                    &self.classical,
-                )?;
-                self.classical.push(alloc, register)?;
-                Ok(())
-            }
-            FirstWord::Barrier => {
-                read_barrier(alloc, lexer, &self.quantum, &mut self.tail)?;
-                Ok(())
-            }
-            FirstWord::Measure => {
-                read_measure(lexer, &self.quantum, &self.classical, &mut self.tail)?;
-                Ok(())
-            }
-            FirstWord::Gate(word) => self.gate(lexer, options, token, word),
-            FirstWord::Unsupported => Err(refused(Kind::Unsupported, token)),
-            FirstWord::Unknown => Err(refused(Kind::UnknownGate, token)),
+        let Reader {
+            options,
+            fed: _,
+            progress,
+        } = self;
+        match progress {
+            Progress::Reading { draft, begun } => read_last(alloc, draft, begun, options),
+            Progress::Refused(refusal) => Err(ReadError::Refused(refusal)),
         }
-    }
-
-    // A statement.
-    #[tactic(auto, unfolding(crate::specs::After::statement_at))]
-    fn statement(
-        &mut self,
-        alloc: Global,
-        lexer: &mut Lexer,
-        options: Options,
-    ) -> Result<(), ReadError>
-        requires { length self.old.gates.items ≤ MAX_GATES }
-        ensures read { Gives (λ _. (env_of self.new, [])) result (statement_at options (env_of self.old) (left lexer.old)) }
-        ensures later { OnOk result (tokens lexer.new ≡ later lexer.old) }
-        ensures within { OnOk result (length self.new.gates.items ≤ MAX_GATES) }
-    {
-        let token = demand_word(lexer)?;
-        let first = read_first_word(self.included, token.bytes);
-        self.statement_by(alloc, lexer, options, &token, first)
-    }
-
-    /// The header, which comes first, or a statement.
-    #[tactic(auto, unfolding(crate::specs::After::piece_at))]
-    pub fn piece(
-        &mut self,
-        alloc: Global,
-        lexer: &mut Lexer,
-        options: Options,
-    ) -> Result<(), ReadError>
-        requires { length self.old.gates.items ≤ MAX_GATES }
-        ensures read { Gives (λ _. (env_of self.new, [])) result (piece_at options (env_of self.old) (left lexer.old)) }
-        ensures later { OnOk result (tokens lexer.new ≡ later lexer.old) }
-        ensures within { OnOk result (length self.new.gates.items ≤ MAX_GATES) }
-    {
-        if self.header {
-            self.statement(alloc, lexer, options)
-        } else {
-            read_header(lexer)?;
-            self.header = true;
-            Ok(())
-        }
-    }
-}
-
-// Whether nothing is left: the header was read, and the end of the text stands next.
-#[tactic(auto, using(crate::proofs::Pieces::done_told))]
-fn is_done(reader: &Reader, lexer: &mut Lexer) -> bool
-    ensures test { result ≡ is_done (env_of reader.now) (tokens lexer.new) }
-    ensures same { tokens lexer.new ≡ tokens lexer.old }
-    ensures last { result ≡ true → length (tokens lexer.new) ≡ 1 }
-{
-    let ended = lexer.is_at_end();
-    reader.header && ended
-}
-
-// The pieces of a text one after another, and its rest.
-fn read_pieces(alloc: Global, lexer: &mut Lexer, options: Options) -> Result<Reader, ReadError>
-    ensures read { Gives (λ r. (env_of r).program) result (read_tokens options start (tokens lexer.old)) }
-    ensures within { IfOk result (λ r. length r.gates.items ≤ MAX_GATES) }
-{
-    let mut reader = Reader::new(alloc);
-    'pieces: loop {
-        if is_done(&reader, lexer) {
-            return Ok(reader);
-        }
-        reader.piece(alloc, lexer, options)?;
     }
 }
 
@@ -227,7 +117,6 @@ pub fn read_text(alloc: Global, text: &[u8], options: Options) -> Result<Program
     ensures well_formed { IfOk result (λ p. WellFormed (view p)) }
     ensures refused { IfErr result (IsRefusedFor text.now options) }
 {
-    let mut lexer = Lexer::new(text);
-    let reader = read_pieces(alloc, &mut lexer, options)?;
-    Ok(reader.into_program())
+    let reader = Reader::new(alloc, options).feed(alloc, text)?;
+    reader.finish(alloc)
 }

@@ -1,15 +1,12 @@
-use crate::{Name, Options, ReadError, RegList, TailList, read_text};
+use crate::{Name, Options, Program, ReadError, Reader, RegList, TailList, read_text};
 use pq_limits::MAX_INPUT;
 use pq_list::OutOfMemory;
 use std::alloc::Global;
 
-// What a text gives: the number of the kind, the line and the column of a refusal, or 0, the number
+// What an answer tells: the number of the kind, the line and the column of a refusal, or 0, the number
 // of gates and the number of tail items of a program.
-fn told(alloc: Global, text: &[u8], drop_barriers: bool) -> Option<(u8, u32, u32)> {
-    if text.len() as u64 > MAX_INPUT {
-        return None;
-    }
-    match read_text(alloc, text, Options { drop_barriers }) {
+fn told_by(answer: Result<Program, ReadError>) -> Option<(u8, u32, u32)> {
+    match answer {
         Ok(program) => Some((
             0,
             (program.gates.as_slice().len() & 0xffff_ffff) as u32,
@@ -20,6 +17,68 @@ fn told(alloc: Global, text: &[u8], drop_barriers: bool) -> Option<(u8, u32, u32
         }
         Err(ReadError::OutOfMemory) => None,
     }
+}
+
+// The same of a text.
+fn told(alloc: Global, text: &[u8], drop_barriers: bool) -> Option<(u8, u32, u32)> {
+    if text.len() as u64 > MAX_INPUT {
+        return None;
+    }
+    told_by(read_text(alloc, text, Options { drop_barriers }))
+}
+
+// The same of two texts, one after another.
+fn told_in_two(
+    alloc: Global,
+    front: &[u8],
+    back: &[u8],
+) -> Result<Option<(u8, u32, u32)>, OutOfMemory> {
+    if front.len() > 1_000_000 || back.len() > 1_000_000 {
+        return Ok(None);
+    }
+    let options = Options {
+        drop_barriers: false,
+    };
+    let reader = Reader::new(alloc, options)
+        .feed(alloc, front)?
+        .feed(alloc, back)?;
+    Ok(told_by(reader.finish(alloc)))
+}
+
+// The same of a text in pieces of so many bytes.
+fn told_in_pieces(
+    alloc: Global,
+    text: &[u8],
+    size: usize,
+) -> Result<Option<(u8, u32, u32)>, OutOfMemory> {
+    if text.len() as u64 > MAX_INPUT {
+        return Ok(None);
+    }
+    let options = Options {
+        drop_barriers: false,
+    };
+    let mut reader = Reader::new(alloc, options);
+    let mut fed = 0;
+    'pieces: while fed < text.len() {
+        let piece = (text.len() - fed).min(size).max(1);
+        reader = reader.feed(alloc, &text[fed..fed + piece])?;
+        fed += piece;
+    }
+    Ok(told_by(reader.finish(alloc)))
+}
+
+// Whether a text tells this wherever it is cut in two.
+fn is_told_at_each_cut(
+    alloc: Global,
+    text: &[u8],
+    want: (u8, u32, u32),
+) -> Result<bool, OutOfMemory> {
+    let mut agree = true;
+    for at in 0..text.len() {
+        let (front, back) = text.split_at(at);
+        agree = agree && told_in_two(alloc, front, back)? == Some(want);
+    }
+    Ok(agree)
 }
 
 // The same of the two first lines, a line, and another line so many times.
@@ -211,6 +270,57 @@ fn limits_are_reached(rt: HostRuntime) -> Result<(), OutOfMemory> {
         )?,
         Some((17, 261, 15))
     );
+    Ok(())
+}
+
+#[test]
+fn pieces_read_as_the_whole(rt: HostRuntime) -> Result<(), OutOfMemory> {
+    let alloc = rt.alloc();
+    let text =
+        "OPENQASM 2.0;\ninclude \"qelib1.inc\";\nqreg q[3];\ncreg c[3];\nh q[0];\ncx q[0],q[1];\nt q[1];\ntdg q[1];\ncx q[0],q[1];\nh q;\nbarrier q;\nmeasure q -> c;\n";
+    for size in [1, 7, 65_536] {
+        assert_eq!(rt;
+            told_in_pieces(alloc, text.as_bytes(), size)?,
+            Some((0, 8, 4))
+        );
+    }
+    assert_eq!(rt;
+        told_in_pieces(
+            alloc,
+            b"OPENQASM 2.0;\ninclude \"qelib1.inc\";\nqreg q[2];\nh q[0]",
+            1
+        )?,
+        Some((3, 4, 7))
+    );
+    Ok(())
+}
+
+#[test]
+fn tokens_may_be_cut(rt: HostRuntime) -> Result<(), OutOfMemory> {
+    for (text, want) in [
+        (
+            "OPENQASM 2.0;include \"qelib1.inc\";// ; \"\nqreg ab[02];creg c[2];cx ab[0] , ab[1];measure ab->c;",
+            (0, 1, 2),
+        ),
+        ("OPENQASM 2.0;\n\r\t // a; /\n// \n//", (0, 0, 0)),
+        ("OPENQASM 2.;", (10, 1, 10)),
+        ("OPENQASM .25e+1;", (10, 1, 10)),
+        ("OPENQASM 2.0e-12 ;", (10, 1, 10)),
+        ("OPENQASM 2.0e;", (3, 1, 13)),
+        ("OPENQASM 2.0;\nqreg q == ;", (3, 2, 8)),
+        ("OPENQASM 2.0;\nqreg q = ;", (2, 2, 8)),
+        ("OPENQASM 2.0;\nqreg q -- ;", (3, 2, 8)),
+        ("OPENQASM 2.0;\nqreg q /;/", (3, 2, 8)),
+        (
+            "OPENQASM 2.0;\nqreg q //;\n[ 1 ] ; { } ( ) + * ^",
+            (3, 3, 9),
+        ),
+        ("OPENQASM 2.0;\ninclude \"a;b\" ;", (10, 2, 9)),
+        ("OPENQASM 2.0;\ninclude \"a;b\n\" ;", (2, 2, 9)),
+        ("OPENQASM 2.0;\nqreg q[1]; @ ; foo", (2, 2, 12)),
+    ] {
+        assert!(rt; is_told_at_each_cut(rt.alloc(), text.as_bytes(), want)?);
+    }
     Ok(())
 }
 

@@ -1,5 +1,6 @@
 use Rattle.std.proofs.Common.{◌≡◌, false, true, ◌+◌, ◌-◌, ◌*◌, ◌<◌, ◌≤◌, length}
-use Rattle.pq_match.specs.Seek.{MarksAll, LooksAtMore, AreLookedAt, IsAtCursor, AreCursors, AreAhead}
+use Rattle.pq_match.specs.Seek.{MarksAll, LooksAtMore, AreLookedAt, IsAtCursor, AreCursors, AreMarked, AreAhead}
+use Rattle.pq_match.specs.Ties.{IsTiedBy}
 use Rattle.pq_match.proofs.Seeking.{IsWalkedAlike}
 use Rattle.pq_match.proofs.seek.+seeking.Given as goal
 
@@ -22,7 +23,9 @@ invariant-seek-walk l = record {
   seen : l.place < l.looked.reach;
   more : LooksAtMore l.fn.looked l.looked;
   looked_at : AreLookedAt l.gates l.looked l.places l.count;
+  marked : AreMarked l.gates l.looked l.moved;
   wide : l.free ≡ true → MarksAll l.looked.mask;
+  tied : l.free ≡ false → IsTiedBy l.gates l.pattern l.looked l.places l.count l.place l.moved;
   ahead : AreAhead l.place l.moved;
   stands : l.free ≡ false → l.place < length l.gates → IsAtCursor l.place l.moved;
   cursors : AreCursors l.gates l.pattern l.places l.count l.place l.moved;

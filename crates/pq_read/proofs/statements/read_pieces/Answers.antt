@@ -2,16 +2,15 @@ use Rattle.std.proofs.Common.{◌≡◌, ◌<◌, length, ap, sym, ◌∙◌, ar
 use Rattle.std.proofs.lemmas.Result.{err_from_is_err_and}
 use Rattle.pq_lex.specs.Lex.{tokens}
 use Rattle.pq_lex.proofs.Lexing.{tokens_some}
-use Rattle.pq_read.specs.Environment.{start}
-use Rattle.pq_read.specs.Readers.{env_of}
+use Rattle.pq_read.specs.Drafts.{env_of}
 use Rattle.pq_read.specs.Reads.{read_tokens}
 use Rattle.pq_read.specs.Gives.{beyond}
 use Rattle.pq_read.proofs.Pieces.{read_on, read_done, read_fails, beyond_less}
-use Rattle.pq_read.proofs.reader.read_pieces.Goals as goal
+use Rattle.pq_read.proofs.statements.read_pieces.Goals as goal
 
 pub returns-then-is_done-clause-read : goal.returns-then-is_done-clause-read
 returns-then-is_done-clause-read c =
-    let E = env_of c.pieces.reader in
+    let E = env_of c.pieces.draft in
     let done = sym c.is_done.ensures.test ∙ c.if-is_done.true in
     sym c.pieces.invariant.0
     ∙ (ap (read_tokens c.args.options E) (sym c.is_done.ensures.same)
@@ -19,7 +18,7 @@ returns-then-is_done-clause-read c =
 
 pub pieces-preserved : goal.pieces-preserved
 pieces-preserved c =
-    let E = env_of c.pieces.reader in
+    let E = env_of c.pieces.draft in
     let on = read_on c.args.options E (env_of c.piece.new.self) (tokens c.is_done.new.lexer) (tokens c.piece.new.lexer) c.in_ok-piece.ensures.read c.in_ok-piece.ensures.later (tokens_some c.piece.new.lexer) in
     (sym on ∙ (ap (read_tokens c.args.options E) c.is_done.ensures.same ∙ c.pieces.invariant.0), c.in_ok-piece.ensures.within)
 
@@ -33,8 +32,8 @@ pieces-smaller c =
 
 pub returns-in_err-piece-clause-read : goal.returns-in_err-piece-clause-read
 returns-in_err-piece-clause-read c =
-    let E = env_of c.pieces.reader in
+    let E = env_of c.pieces.draft in
     let p = err_from_is_err_and c.from_residual.result c.from_residual.ensures.1 in
     let open_end = sym c.is_done.ensures.test ∙ c.if-is_done.false in
-    rw (p.1, p.2) (read_fails c.in_err-piece.field-0.0 c.args.options E (tokens c.is_done.new.lexer) (read_tokens c.args.options start (tokens c.args.lexer.now)) c.in_err-piece.ensures.read open_end
+    rw (p.1, p.2) (read_fails c.in_err-piece.field-0.0 c.args.options E (tokens c.is_done.new.lexer) (read_tokens c.args.options (env_of c.args.draft.now) (tokens c.args.lexer.now)) c.in_err-piece.ensures.read open_end
     (tokens_some c.is_done.new.lexer) (ap (read_tokens c.args.options E) c.is_done.ensures.same ∙ c.pieces.invariant.0))

@@ -1,8 +1,8 @@
--- What a reader has read.
-use Rattle.pq_read.specs.declared.reader.Reader.{Reader}
+-- What a draft holds.
+use Rattle.pq_read.specs.declared.draft.Draft.{Draft}
 use Rattle.pq_read.specs.Environment.{Env}
 
-abbrev pub env_of : Reader → Env
+abbrev pub env_of : Draft → Env
 env_of r = record {
   header = r.header;
   included = r.included;

@@ -1,7 +1,7 @@
 use Rattle.std.proofs.Common.{IfSome}
 use Rattle.std.proofs.lemmas.Option.{IfSome_then}
 use Rattle.pq_array.proofs.Descent.{IsNext, next_by_number, none_by_number}
-use Rattle.pq_array.proofs.array.GateArray.next_live.Goals as goal
+use Rattle.pq_array.proofs.array.GateArray.next_by_rank.Goals as goal
 
 -- what `select` finds is the next live place
 found : (c : goal.After-select) → IfSome c.select.result (IsNext c.args.self.now c.args.place)
