@@ -216,6 +216,72 @@ fn rows_with_gates_on_wires_apart_are_rewritten(rt: HostRuntime) -> Result<(), F
     Ok(())
 }
 
+fn leaves_under(
+    rt: &(impl Abort + AllocGlobal),
+    rules: &Rules,
+    gates: &[Gate],
+    left: &[Gate],
+) -> Result<(), OutOfMemory>
+    requires { length gates.now ≤ 16 }
+{
+    let mut seg = segment(rt.alloc(), gates)?;
+    let outcome = improve(rules, &mut seg);
+    assert!(rt; outcome.improved);
+    assert!(rt; seg.gates() == left, "{gates:?}");
+    Ok(())
+}
+
+// The replacement has more gates than there are free places around the last gate of the redex, with one on another wire
+// before it.
+#[test]
+fn a_long_replacement_finds_its_place(rt: HostRuntime) -> Result<(), Fail> {
+    let row = row_of(
+        &rt,
+        &[
+            cx_on(0, 1),
+            h_on(2),
+            h_on(1),
+            cx_on(2, 0),
+            z_on(0),
+            cx_on(2, 0),
+        ],
+        &[cx_on(0, 1), h_on(2), h_on(1), z_on(0), z_on(2)],
+    )?;
+    let mut extra = Vec::new(rt.alloc());
+    extra.push(row)?;
+    let rules = Rules::builtin(rt.alloc())?.with(rt.alloc(), extra)?;
+    let given = [
+        cx_on(0, 1),
+        h_on(2),
+        h_on(1),
+        cx_on(2, 0),
+        z_on(0),
+        h_on(5),
+        cx_on(2, 0),
+    ];
+    let left = [
+        h_on(5),
+        cx_on(0, 1),
+        h_on(2),
+        h_on(1),
+        z_on(0),
+        z_on(2),
+    ];
+    leaves_under(&rt, &rules, &given, &left)?;
+    Ok(())
+}
+
+// Wires may be greater than the segment; the greatest number stands for no wire elsewhere.
+#[test]
+fn wires_may_be_any_numbers(rt: HostRuntime) -> Result<(), Fail> {
+    let rules = Rules::builtin(rt.alloc())?;
+    for wire in [4_096, 4_294_967_294, u32::MAX] {
+        let gates = [h_on(wire), h_on(5), z_on(7), h_on(wire), h_on(5)];
+        leaves_under(&rt, &rules, &gates, &[z_on(7)])?;
+    }
+    Ok(())
+}
+
 // Two H gates, worked under this ticket.
 fn worked<'r>(alloc: Global, rules: &'r Rules, ticket: u64) -> Result<Worked<'r>, OutOfMemory> {
     let input = GateList::of(Vec::from_slice(alloc, &[H, H])?);
