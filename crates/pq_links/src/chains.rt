@@ -3,11 +3,11 @@ ghost use Rattle.std.specs.Prelude.{◌≡◌, ◌≢◌, ℕ, ◌+◌, ◌*◌,
 ghost use Rattle.pq_gate.specs.Commuting.{Touches};
 ghost use Rattle.pq_links.specs.Wires.{wire_of};
 ghost use Rattle.pq_links.specs.Places.{gate_at};
-ghost use Rattle.pq_links.specs.Links.{AreLinked};
+ghost use Rattle.pq_links.specs.Links.{AreLinked, IsLastOn};
 ghost use Rattle.pq_links.specs.Slots.{free_slot, spread, AreSlots, AreNext, ArePrevious, AreChained, IsGap};
 ghost use Rattle.pq_links.specs.Leading.{doubled, AreLed, AreSpread, LeadNowhere};
 
-use crate::links::{FAR, Links, NO_WIRE, Sides, lead, next_on};
+use crate::links::{FAR, Links, NO_WIRE, Sides, lead, next_on, side_on};
 use pq_gate::Gate;
 use pq_list::OutOfMemory;
 use std::alloc::Global;
@@ -84,6 +84,17 @@ impl Chains {
         ensures { result.now ≡ self.now.next }
     {
         self.next.as_slice()
+    }
+
+    /// The last place before this one whose gate uses the wire, or `FAR` where there is none. The gate at the place has
+    /// to use the wire, which isn't `NO_WIRE`.
+    pub fn previous_on(&self, slots: &[Gate], place: u32, wire: u32) -> u32
+        requires chained { AreChained slots.now self.now.next self.now.previous }
+        requires place { place < length slots.now }
+        ensures fits { result ≤ FAR }
+        ensures previous { wire ≢ NO_WIRE → Touches (gate_at slots.now place) wire → IsLastOn slots.now wire place result }
+    {
+        side_on(slots, self.previous.as_slice(), place, wire)
     }
 
     /// Frees the slot at the place. The answers are the gaps that its gate leaves on its first and its last wire.

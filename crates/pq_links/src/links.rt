@@ -162,7 +162,7 @@ pub fn next_on(gates: &[Gate], next: &[Sides], place: u32, wire: u32) -> u32
 }
 
 // what is noted at the place for this wire of its gate
-fn side_on(gates: &[Gate], sides: &[Sides], place: u32, wire: u32) -> u32
+pub(crate) fn side_on(gates: &[Gate], sides: &[Sides], place: u32, wire: u32) -> u32
     requires long { length sides.now ≡ length gates.now }
     requires place { place < length gates.now }
     ensures fits { result ≤ FAR }

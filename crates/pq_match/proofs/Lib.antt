@@ -39,9 +39,15 @@ pub mod RewritingTests
 pub mod Ranks
 pub mod RankedRedexes
 pub mod RankedRewriting
+pub mod NumberSets
+pub mod WakingWords
 pub mod Spreading
 pub mod RunsAround
 pub mod Exchanging
-pub mod Keeping
+pub mod MarkedPlaces
 pub mod Placed
+pub mod Settling
+pub mod Quieting
+pub mod Resettling
+pub mod Awaiting
 pub mod Working

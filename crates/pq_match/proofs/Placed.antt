@@ -114,91 +114,95 @@ module _ (slots : List Gate) (free : AreSlots slots) (row : RowView) (sound : Is
       };
     }
 
-  -- A rewriting changes only what lies between the first chosen slot and the run's end, and only on the redex's wires.
+  -- A rewriting changes only what lies between the first chosen slot and the run's end, and only on wires of chosen gates.
+  module _ (new : List Gate) (run : Run) (is : IsRun slots places (length row.replacement) run) (done : IsExchanged slots new row.replacement wires places run) (Q : ℕ → Type 0)
+      (marks : (k : ℕ) (one : Bool) → k < length places → Q (wire_of one (gate_at slots (get_or places k 0)))) where
+    pub room_long : length (map (renamed wires) row.replacement) ≡ length row.replacement
+    room_long = length-map row.replacement (renamed wires)
+
+    pub whole : length new ≡ length slots
+    whole = done.filled.whole ∙ done.freed.whole
+
+    kept : (p : ℕ) → is_chosen places p ≡ false → gate_at slots p ≡ gate_at done.between p
+    kept p other = elim (cases_lt p (length slots)) [
+      | inl inside ↦ sym (done.freed.others p inside other)
+      | inr past ↦ get_or_past slots p (H 0) past ∙ sym (get_or_past done.between p (H 0) (let e : length done.between ≡ length slots = done.freed.whole in omega arith))
+    ]
+
+    -- a slot outside of the filled ones that isn't chosen stays as it is
+    pub stays : (p : ℕ) → is_chosen places p ≡ false → (p < run.start) ⊎ (run.start + length (map (renamed wires) row.replacement) ≤ p) → gate_at slots p ≡ gate_at new p
+    stays p other (inl low) = kept p other ∙ sym (done.filled.before p low)
+    stays p other (inr high) = kept p other ∙ sym (done.filled.behind p high)
+
+    -- and a chosen one is free
+    pub freed : (p : ℕ) → p < length slots → is_chosen places p ≡ true → (p < run.start) ⊎ (run.start + length (map (renamed wires) row.replacement) ≤ p) → gate_at new p ≡ free_slot
+    freed p inside chosen (inl low) = done.filled.before p low ∙ done.freed.freed p inside chosen
+    freed p inside chosen (inr high) = done.filled.behind p high ∙ done.freed.freed p inside chosen
+
+    -- a wire of the replacement is marked
+    put_marked : (k : ℕ) → k < length row.replacement → (w : ℕ) → Touches (renamed wires (gate_at row.replacement k)) w → Q w
+    put_marked k below w touches =
+        let at = touched (renamed wires (gate_at row.replacement k)) w touches in
+        let v : ℕ = wire_of at.0 (gate_at row.replacement k) in
+        let is_at = used_at v (wire_below row.wires (gate_at row.replacement k) at.0 (gate_on_wires row.wires row.replacement sound.wires.right k below)) in
+        let same : w ≡ wire_of is_at.1 (gate_at slots (get_or places is_at.0 0)) = at.1 ∙ (wire-renamed wires at.0 (gate_at row.replacement k) ∙ is_at.4) in
+        subst Q (sym same) (marks is_at.0 is_at.1 is_at.2)
+
+    -- and so is one of a chosen gate
+    chosen_marked : (p w : ℕ) → is_chosen places p ≡ true → Touches (gate_at slots p) w → Q w
+    chosen_marked p w chosen touches =
+        let at = chosen_somewhere places p chosen in
+        let on_wire = touched (gate_at slots p) w touches in
+        let same : w ≡ wire_of on_wire.0 (gate_at slots (get_or places at.at 0)) = on_wire.1 ∙ ap (λ q. wire_of on_wire.0 (gate_at slots q)) (sym at.is) in
+        subst Q (sym same) (marks at.at on_wire.0 at.below)
+
+    old_marked : (p w : ℕ) → w ≢ no_wire → p < run.end → run.start ≤ p → Touches (gate_at slots p) w → Q w
+    old_marked p w valid below from touches =
+        elim (is.spare.each p from below) [
+          | inl none ↦ absurd (free_uses w (gate_at slots p) (free_is slots p free (omega (arith, is.inside)) none) valid touches)
+          | inr chosen ↦ chosen_marked p w chosen touches
+        ]
+
+    in_run : (p w : ℕ) → w ≢ no_wire → run.start ≤ p → p < run.start + length (map (renamed wires) row.replacement) → Touches (gate_at slots p) w ⊎ Touches (gate_at new p) w → Q w
+    in_run p w valid from below (inl touches) = old_marked p w valid (omega (arith, is.room, room_long)) from touches
+    in_run p w valid from below (inr touches) =
+        let k : ℕ = p - run.start in
+        let low : k < length (map (renamed wires) row.replacement) = omega arith in
+        let at : gate_at new p ≡ renamed wires (gate_at row.replacement k) =
+        ap (gate_at new) (let e : p ≡ run.start + (p - run.start) = omega arith in e) ∙ done.filled.filled k low
+        ∙ get_or-map (renamed wires) row.replacement k (H 0) (H 0) (omega (arith, low, room_long)) in
+        put_marked k (omega (arith, low, room_long)) w (subst (λ (g : Gate). Touches g w) at touches)
+
+    freed_here : (p w : ℕ) → w ≢ no_wire → is_chosen places p ≡ true → (p < run.start) ⊎ (run.start + length (map (renamed wires) row.replacement) ≤ p) →
+        Touches (gate_at slots p) w ⊎ Touches (gate_at new p) w → Q w
+    freed_here p w valid chosen where_is (inl touches) = chosen_marked p w chosen touches
+    freed_here p w valid chosen where_is (inr touches) =
+        let at = chosen_somewhere places p chosen in
+        let inside : p < length slots = subst (λ q. q < length slots) at.is (placed.matches.inside at.at 0 at.below) in
+        let new_is : gate_at new p ≡ gate_at done.between p = elim where_is [ inl low ↦ done.filled.before p low | inr high ↦ done.filled.behind p high ] in
+        absurd (free_uses w (gate_at new p) (new_is ∙ done.freed.freed p inside chosen) valid touches)
+
+    pub changes_on : (p w : ℕ) → w ≢ no_wire → Touches (gate_at slots p) w ⊎ Touches (gate_at new p) w → (gate_at slots p ≡ gate_at new p) ⊎ Q w
+    changes_on p w valid uses = by (cases_lt p run.start) (cases_lt p (run.start + length (map (renamed wires) row.replacement))) (cases_Bool (is_chosen places p))
+      where
+        by : (p < run.start) ⊎ (run.start ≤ p) → (p < run.start + length (map (renamed wires) row.replacement)) ⊎ (run.start + length (map (renamed wires) row.replacement) ≤ p) →
+            (is_chosen places p ≡ true) ⊎ (is_chosen places p ≡ false) → (gate_at slots p ≡ gate_at new p) ⊎ Q w
+        by (inl low) second (inl chosen) = inr (freed_here p w valid chosen (inl low) uses)
+        by (inl low) second (inr other) = inl (stays p other (inl low))
+        by (inr from) (inl below) chosen = inr (in_run p w valid from below uses)
+        by (inr from) (inr high) (inl chosen) = inr (freed_here p w valid chosen (inr high) uses)
+        by (inr from) (inr high) (inr other) = inl (stays p other (inr high))
+
   pub changes_at : (new : List Gate) (run : Run) (mask : ℕ) → IsRun slots places (length row.replacement) run → IsExchanged slots new row.replacement wires places run → MarksPlaces slots places mask →
       ChangesAt slots new (get_or places 0 0) run.end mask
   changes_at new run mask is done marks = record {
-    whole = whole;
-    before = λ p below. stays p (before_chosen places placed.matches.rising p below) (inl (omega (arith, is.from)));
-    behind = λ p upto. stays p (behind_last places placed.matches.rising p (omega (arith, is.behind))) (inr (omega (arith, is.room, room_long)));
-    on = λ p w valid uses. on p w valid uses;
+    whole = whole new run is done (HasBit mask) marks.marked;
+    before = λ p below. stays new run is done (HasBit mask) marks.marked p (before_chosen places placed.matches.rising p below) (inl (omega (arith, is.from)));
+    behind = λ p upto.
+        stays new run is done (HasBit mask) marks.marked p (behind_last places placed.matches.rising p (omega (arith, is.behind)))
+        (inr (omega (arith, is.room, room_long new run is done (HasBit mask) marks.marked)));
+    on = λ p w valid uses. changes_on new run is done (HasBit mask) marks.marked p w valid uses;
   }
-    where
-      between : List Gate
-      between = done.between
-
-      put : List Gate
-      put = map (renamed wires) row.replacement
-
-      room_long : length (map (renamed wires) row.replacement) ≡ length row.replacement
-      room_long = length-map row.replacement (renamed wires)
-
-      whole : length new ≡ length slots
-      whole = done.filled.whole ∙ done.freed.whole
-
-      kept : (p : ℕ) → is_chosen places p ≡ false → gate_at slots p ≡ gate_at done.between p
-      kept p other = elim (cases_lt p (length slots)) [
-        | inl inside ↦ sym (done.freed.others p inside other)
-        | inr past ↦ get_or_past slots p (H 0) past ∙ sym (get_or_past done.between p (H 0) (let e : length done.between ≡ length slots = done.freed.whole in omega arith))
-      ]
-
-      stays : (p : ℕ) → is_chosen places p ≡ false → (p < run.start) ⊎ (run.start + length (map (renamed wires) row.replacement) ≤ p) → gate_at slots p ≡ gate_at new p
-      stays p other (inl low) = kept p other ∙ sym (done.filled.before p low)
-      stays p other (inr high) = kept p other ∙ sym (done.filled.behind p high)
-
-      -- a wire of the replacement is marked
-      put_marked : (k : ℕ) → k < length row.replacement → (w : ℕ) → Touches (renamed wires (gate_at row.replacement k)) w → HasBit mask w
-      put_marked k below w touches =
-          let at = touched (renamed wires (gate_at row.replacement k)) w touches in
-          let v : ℕ = wire_of at.0 (gate_at row.replacement k) in
-          let is_at = used_at v (wire_below row.wires (gate_at row.replacement k) at.0 (gate_on_wires row.wires row.replacement sound.wires.right k below)) in
-          let same : w ≡ wire_of is_at.1 (gate_at slots (get_or places is_at.0 0)) = at.1 ∙ (wire-renamed wires at.0 (gate_at row.replacement k) ∙ is_at.4) in
-          subst (HasBit mask) (sym same) (marks.marked is_at.0 is_at.1 is_at.2)
-
-      -- and so is one of a chosen gate
-      chosen_marked : (p w : ℕ) → is_chosen places p ≡ true → Touches (gate_at slots p) w → HasBit mask w
-      chosen_marked p w chosen touches =
-          let at = chosen_somewhere places p chosen in
-          let on_wire = touched (gate_at slots p) w touches in
-          let same : w ≡ wire_of on_wire.0 (gate_at slots (get_or places at.at 0)) = on_wire.1 ∙ ap (λ q. wire_of on_wire.0 (gate_at slots q)) (sym at.is) in
-          subst (HasBit mask) (sym same) (marks.marked at.at on_wire.0 at.below)
-
-      old_marked : (p w : ℕ) → w ≢ no_wire → p < run.end → run.start ≤ p → Touches (gate_at slots p) w → HasBit mask w
-      old_marked p w valid below from touches =
-          elim (is.spare.each p from below) [
-            | inl none ↦ absurd (free_uses w (gate_at slots p) (free_is slots p free (omega (arith, is.inside)) none) valid touches)
-            | inr chosen ↦ chosen_marked p w chosen touches
-          ]
-
-      in_run : (p w : ℕ) → w ≢ no_wire → run.start ≤ p → p < run.start + length (map (renamed wires) row.replacement) → Touches (gate_at slots p) w ⊎ Touches (gate_at new p) w → HasBit mask w
-      in_run p w valid from below (inl touches) = old_marked p w valid (omega (arith, is.room, room_long)) from touches
-      in_run p w valid from below (inr touches) =
-          let k : ℕ = p - run.start in
-          let low : k < length (map (renamed wires) row.replacement) = omega arith in
-          let at : gate_at new p ≡ renamed wires (gate_at row.replacement k) =
-          ap (gate_at new) (let e : p ≡ run.start + (p - run.start) = omega arith in e) ∙ done.filled.filled k low
-          ∙ get_or-map (renamed wires) row.replacement k (H 0) (H 0) (omega (arith, low, room_long)) in
-          put_marked k (omega (arith, low, room_long)) w (subst (λ (g : Gate). Touches g w) at touches)
-
-      freed_here : (p w : ℕ) → w ≢ no_wire → is_chosen places p ≡ true → (p < run.start) ⊎ (run.start + length (map (renamed wires) row.replacement) ≤ p) →
-          Touches (gate_at slots p) w ⊎ Touches (gate_at new p) w → HasBit mask w
-      freed_here p w valid chosen where_is (inl touches) = chosen_marked p w chosen touches
-      freed_here p w valid chosen where_is (inr touches) =
-          let at = chosen_somewhere places p chosen in
-          let inside : p < length slots = subst (λ q. q < length slots) at.is (placed.matches.inside at.at 0 at.below) in
-          let new_is : gate_at new p ≡ gate_at done.between p = elim where_is [ inl low ↦ done.filled.before p low | inr high ↦ done.filled.behind p high ] in
-          absurd (free_uses w (gate_at new p) (new_is ∙ done.freed.freed p inside chosen) valid touches)
-
-      on : (p w : ℕ) → w ≢ no_wire → Touches (gate_at slots p) w ⊎ Touches (gate_at new p) w → (gate_at slots p ≡ gate_at new p) ⊎ HasBit mask w
-      on p w valid uses = by (cases_lt p run.start) (cases_lt p (run.start + length (map (renamed wires) row.replacement))) (cases_Bool (is_chosen places p))
-        where
-          by : (p < run.start) ⊎ (run.start ≤ p) → (p < run.start + length (map (renamed wires) row.replacement)) ⊎ (run.start + length (map (renamed wires) row.replacement) ≤ p) →
-              (is_chosen places p ≡ true) ⊎ (is_chosen places p ≡ false) → (gate_at slots p ≡ gate_at new p) ⊎ HasBit mask w
-          by (inl low) second (inl chosen) = inr (freed_here p w valid chosen (inl low) uses)
-          by (inl low) second (inr other) = inl (stays p other (inl low))
-          by (inr from) (inl below) chosen = inr (in_run p w valid from below uses)
-          by (inr from) (inr high) (inl chosen) = inr (freed_here p w valid chosen (inr high) uses)
-          by (inr from) (inr high) (inr other) = inl (stays p other (inr high))
 
   -- a slot before the run that isn't chosen stays as it is
   pub stays_before : (new : List Gate) (run : Run) → IsExchanged slots new row.replacement wires places run → (p : ℕ) → is_chosen places p ≡ false → p < run.start → gate_at slots p ≡ gate_at new p

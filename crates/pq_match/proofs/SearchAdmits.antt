@@ -18,7 +18,7 @@ use Rattle.pq_match.proofs.Roles.{both_true}
 use Rattle.pq_match.proofs.SearchFrom.{AreTried, begins_here}
 use Rattle.pq_match.proofs.SearchMatch.{match_full}
 use Rattle.pq_match.proofs.SearchNumbers.{numbers_rise, stands_where}
-use Rattle.pq_match.proofs.SearchPlaces.{StandsAt}
+use Rattle.pq_match.specs.Settled.{StandsAt}
 
 -- two places on the last wire of the gate at the start and before the end, and what is seen there
 pub record AreSeen (gates : List Gate) (start end n1 n2 : ℕ) (near far : Seen) : Type 0 where

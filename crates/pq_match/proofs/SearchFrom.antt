@@ -13,7 +13,7 @@ use Rattle.pq_match.specs.Search.{IsFrom, IsOfRow}
 use Rattle.pq_match.proofs.SearchGates.{kind-renamed}
 use Rattle.pq_match.proofs.RewritingWires.{places_long, chosen_at}
 use Rattle.pq_match.proofs.SearchNumbers.{begins_by_kind, stands_where}
-use Rattle.pq_match.proofs.SearchPlaces.{StandsAt}
+use Rattle.pq_match.specs.Settled.{StandsAt}
 
 -- The rows of all redexes from the start that lie before the end are among those with these numbers, which rise; and
 -- none of the rows with the first of them has a redex here.

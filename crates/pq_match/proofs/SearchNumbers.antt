@@ -7,7 +7,7 @@ use Rattle.pq_gate.specs.Kind.{kind_of, number_of}
 use Rattle.pq_rules.specs.Kinds.{begins, numbers_where, row_numbered}
 use Rattle.pq_rules.specs.Row.{RowView}
 use Rattle.pq_match.specs.Redex.{gate_at}
-use Rattle.pq_match.proofs.SearchPlaces.{StandsAt}
+use Rattle.pq_match.specs.Settled.{StandsAt}
 
 pub begins_by_kind : (kind : ℕ) (pattern : List Gate) → 0 < length pattern → number_of (kind_of (gate_at pattern 0)) ≡ kind → begins kind pattern ≡ true
 begins_by_kind kind [] some same = absurd (omega arith)

@@ -8,6 +8,7 @@ use Rattle.std.proofs.lemmas.Grind.{get_or_default_zero}
 use Rattle.pq_match.specs.Redex.{last_place, is_chosen}
 use Rattle.pq_match.specs.First.{Precedes}
 use Rattle.pq_match.specs.Search.{IsPassed, IsBefore}
+use Rattle.pq_match.specs.Settled.{StandsAt}
 
 pub last_place_at : (places : List ℕ) → last_place places ≡ get_or places (length places - 1) 0
 last_place_at [] = refl
@@ -43,11 +44,6 @@ passed_not_chosen places place passed =
     (λ s d below. ne_eqb (get_or places s d) place (λ same. passed s below (sym (get_or_default_zero places s d below) ∙ same)))
 
 -- where a chosen place stands
-pub record StandsAt (places : List ℕ) (place : ℕ) : Type 0 where
-  pub at : ℕ
-  pub below : at < length places
-  pub is : get_or places at 0 ≡ place
-
 pub chosen_stands : (places : List ℕ) (place : ℕ) → is_chosen places place ≡ true → StandsAt places place
 chosen_stands places place chosen =
     let found = Any-from_list_any (λ (p : ℕ). p == place) places chosen in

@@ -32,7 +32,7 @@ use Rattle.pq_match.proofs.LookingAlike.{looks_alike, alike_less, as_long, same_
 use Rattle.pq_match.proofs.SearchFrom.{begins_here}
 use Rattle.pq_match.proofs.SearchMatch.{match_full}
 use Rattle.pq_match.proofs.SearchNumbers.{numbers_rise, stands_where}
-use Rattle.pq_match.proofs.SearchPlaces.{StandsAt}
+use Rattle.pq_match.specs.Settled.{StandsAt, AreCandidates}
 use Rattle.pq_match.proofs.SearchRow.{none_of_row, first_of_row}
 
 -- what was found out of a part holds of more
@@ -77,11 +77,6 @@ first_of_row_alike {rules} {gates} {number} {start} {row} {places} front numbere
       };
       padded = found.padded;
     }
-
--- The rows of all redexes at the start are among those with these numbers, which rise.
-pub record AreCandidates (rules : List RowView) (gates : List Gate) (start : ℕ) (looked : Looked) (numbers : List ℕ) : Type 0 where
-  pub rise : (i j : ℕ) → i < j → j < length numbers → get_or numbers i 0 < get_or numbers j 0
-  pub all : (other : List Gate) → AreSlots other → LookAlike start looked gates other → (redex : RedexView) → IsRedex rules other redex → StartsAt start redex → StandsAt numbers redex.row
 
 -- none of the rows with the first of these numbers has a redex here
 pub record AreTriedAlike (rules : List RowView) (gates : List Gate) (start : ℕ) (looked : Looked) (numbers : List ℕ) (index : ℕ) : Type 0 where
@@ -216,7 +211,7 @@ seen_past alike wire place seen.Unclear whole past is = is
 seen_past alike wire place (seen.Plays own) whole past is = subst (λ (g : Gate). (own ≡ role_on wire g) × IsClear g) (same_past alike place whole past) is
 
 -- a redex of a sound row at the start is of a row that admits what is seen
-row_admits : (rules : List RowView) (gates : List Gate) (start n1 n2 : ℕ) (near far : Seen) → All IsSound rules → (redex : RedexView) → (is : IsRedex rules gates redex) → StartsAt start redex →
+pub row_admits : (rules : List RowView) (gates : List Gate) (start n1 n2 : ℕ) (near far : Seen) → All IsSound rules → (redex : RedexView) → (is : IsRedex rules gates redex) → StartsAt start redex →
     IsNextOn gates (last_wire (gate_at gates start)) (start + 1) n1 → (n1 < length gates → IsNextOn gates (last_wire (gate_at gates start)) (n1 + 1) n2) →
     IsSeenAt gates (last_wire (gate_at gates start)) n1 near → IsSeenAt gates (last_wire (gate_at gates start)) n2 far → admits is.row.pattern near far ≡ true
 row_admits rules gates start n1 n2 near far sound redex is at first_next then_next near_is far_is = by is.row.pattern refl

@@ -1,11 +1,13 @@
 -- Rewriting the first redex of slots is rewriting the first one of the gates in them.
-use Rattle.std.proofs.Common.{◌≡◌, ℕ, ◌<◌, Bool, true, false, cond, Some, List, length, ap, sym, subst, ◌∙◌, arith}
+use Rattle.std.proofs.Common.{◌≡◌, ℕ, ◌<◌, Bool, true, false, cond, Some, List, length, get_or, ap, sym, subst, ◌∙◌, arith}
 use Rattle.std.specs.Prelude.{All}
 use Rattle.pq_gate.specs.declared.gate.Gate.{Gate}
+use Rattle.pq_gate.specs.Commuting.{Touches}
+use Rattle.pq_links.specs.Places.{gate_at}
 use Rattle.pq_links.specs.Slots.{AreSlots, gates_in, is_free}
+use Rattle.pq_links.proofs.Touching.{touching}
 use Rattle.pq_rules.specs.Row.{RowView, IsSound}
 use Rattle.pq_rules.specs.Kinds.{row_numbered}
-use Rattle.pq_match.specs.declared.looked.Looked.{Looked}
 use Rattle.pq_match.specs.declared.redex.Redex.{Redex}
 use Rattle.pq_match.specs.declared.runs.Run.{Run}
 use Rattle.pq_match.specs.Redex.{RedexView, IsRedex, HasNoRedex}
@@ -13,23 +15,29 @@ use Rattle.pq_match.specs.First.{IsFirst}
 use Rattle.pq_match.specs.Found.{seen, IsFirstFound, IsRedexOf, Rewrites}
 use Rattle.pq_match.specs.Rewrite.{rewritten}
 use Rattle.pq_match.specs.Segment.{SegView, held}
-use Rattle.pq_match.specs.Seek.{AreTried}
-use Rattle.pq_match.specs.Work.{IsPlaced, IsExchanged, IsRun, IsFirstRewritten, IsFreeRun, MarksPlaces, AreKeptApart}
+use Rattle.pq_match.specs.Waiting.{StartsView}
+use Rattle.pq_match.specs.Settled.{AreSettled, AwaitRewriting}
+use Rattle.pq_match.specs.Work.{IsPlaced, IsExchanged, IsRun, IsFirstRewritten, IsFreeRun, MarksPlaces, AreTakenAt}
 use Rattle.pq_match.proofs.Moving.{rewriting_shortens}
 use Rattle.pq_match.proofs.OneFirst.{row_sound}
-use Rattle.pq_match.proofs.Keeping.{tried_apart}
-use Rattle.pq_match.proofs.Placed.{run_freed, changes_at, stays_before}
+use Rattle.pq_match.proofs.Resettling.{settled_again}
+use Rattle.pq_match.proofs.Placed.{run_freed}
 use Rattle.pq_match.proofs.Ranks.{rank, slot_of, are_ranked}
-use Rattle.pq_match.proofs.RankedRedexes.{moved, up_first, up_none}
+use Rattle.pq_match.proofs.RankedRedexes.{moved, up_first, up_none, placed_taken, taken_apart}
 use Rattle.pq_match.proofs.RankedRewriting.{rewritten_slots}
 
 -- a redex that was found stands where its row's gates do
 pub placed_redex : (rules : List RowView) (slots : List Gate) (redex : RedexView) (is : IsRedex rules slots redex) → IsPlaced slots is.row redex.wires redex.places
 placed_redex rules slots redex is = record { lead = is.wires; some = is.some; matches = is.matches }
 
--- nothing is known of no start
-pub tried_none : (rules : List RowView) (slots : List Gate) (tried : List Looked) → length tried ≡ 0 → AreTried rules slots tried
-tried_none rules slots tried none = record { failed = λ start below known. absurd (omega arith) }
+-- its places are taken
+pub placed_own : (rules : List RowView) (sound : All IsSound rules) (slots : List Gate) (free : AreSlots slots) (redex : RedexView) (is : IsRedex rules slots redex) → AreTakenAt slots redex.places
+placed_own rules sound slots free redex is = record {
+  own = λ k one below none.
+      taken_apart slots (get_or redex.places k 0) free
+      (placed_taken is.row (row_sound rules redex.row is.row is.numbered sound) slots free redex.wires redex.places is.wires is.matches k below)
+      (subst (Touches (gate_at slots (get_or redex.places k 0))) none (touching (gate_at slots (get_or redex.places k 0)) one));
+}
 
 module _ (rules : List RowView) (sound : All IsSound rules) (slots : List Gate) (free : AreSlots slots) where
   -- the gates in the slots have no redex where the slots have none
@@ -110,13 +118,13 @@ module _ (rules : List RowView) (sound : All IsSound rules) (slots : List Gate) 
   pub exchanged_fewer : length (gates_in new) < length (gates_in slots)
   exchanged_fewer = fewer rules sound slots free redex first new run its_run its_exchange
 
-  pub exchanged_tried : (mask : ℕ) (before after : List Looked) → MarksPlaces slots redex.places mask → AreKeptApart redex.places run mask before after → AreTried rules slots before →
-      AreTried rules new after
-  exchanged_tried mask before after marks kept tried =
+  pub exchanged_settled : (mask : ℕ) (before after : StartsView) → MarksPlaces slots redex.places mask →
+      AwaitRewriting slots redex.places run.start (length row.replacement) mask before after → AreSettled rules slots before → AreSettled rules new after
+  exchanged_settled mask before after marks awaits settled =
       let own : IsSound first.is.row = row_sound rules redex.row first.is.row first.is.numbered sound in
       let placed : IsPlaced slots first.is.row redex.wires redex.places = placed_redex rules slots redex first.is in
-      tried_apart rules slots new redex.places run mask before after (changes_at slots free first.is.row own redex.wires redex.places placed new run mask its_run its_exchange marks) in_run.from
-      (stays_before slots free first.is.row own redex.wires redex.places placed new run its_exchange) kept tried
+      settled_again rules slots free first.is.row own redex.wires redex.places placed new run its_run its_exchange mask before after marks
+      (subst (λ (r : RowView). AwaitRewriting slots redex.places run.start (length r.replacement) mask before after) its_row awaits) settled
 
 pub none_loaded : (rules : List RowView) (seg : SegView) → seg.loaded ≡ true → HasNoRedex rules (gates_in seg.work.gates) → HasNoRedex rules (held seg)
 none_loaded rules seg loaded none = subst (HasNoRedex rules) (sym (held_loaded seg loaded)) none

@@ -17,4 +17,6 @@ pub mod Work
 pub mod Ties
 pub mod Segment
 pub mod Search
+pub mod Waiting
+pub mod Settled
 pub mod Within

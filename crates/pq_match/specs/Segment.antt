@@ -4,7 +4,7 @@ use Rattle.pq_gate.specs.Commuting.{Touches}
 use Rattle.pq_links.specs.Places.{gate_at}
 use Rattle.pq_links.specs.Slots.{gates_in}
 use Rattle.pq_rules.specs.Row.{RowView}
-use Rattle.pq_match.specs.Seek.{AreTried}
+use Rattle.pq_match.specs.Settled.{AreSettled}
 use Rattle.pq_match.specs.Work.{SlotsView}
 
 -- a segment: its gates, the room that was asked for, the slots, and whether the gates that it holds stand in them
@@ -18,9 +18,9 @@ pub record SegView : Type 0 where
 abbrev pub held : SegView → List Gate
 held seg = cond seg.loaded (gates_in seg.work.gates) seg.items
 
--- what is noted of starts is so under the rules
+-- each start of its slots that doesn't wait is settled
 abbrev pub IsKnown : List RowView → SegView → Type 0
-IsKnown rules seg = AreTried rules seg.work.gates seg.work.tried
+IsKnown rules seg = AreSettled rules seg.work.gates seg.work.starts
 
 -- the least place behind this one whose gate uses the wire
 pub record IsNextUse (gates : List Gate) (wire place next : ℕ) : Type 0 where

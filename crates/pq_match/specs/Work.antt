@@ -1,5 +1,5 @@
 -- Rewriting in slots.
-use Rattle.std.specs.Prelude.{◌≡◌, ◌≢◌, ℕ, ◌+◌, ◌<◌, ◌≤◌, ◌⊎◌, Bool, true, false, List, length, map, slice_index, bit_and}
+use Rattle.std.specs.Prelude.{◌≡◌, ◌≢◌, ℕ, ◌+◌, ◌<◌, ◌≤◌, ◌⊎◌, Bool, true, false, List, length, map, slice_index}
 use Rattle.pq_gate.specs.declared.gate.Gate.{Gate}
 use Rattle.pq_gate.specs.Circuit.{IsCircuit}
 use Rattle.pq_gate.specs.Commuting.{Touches}
@@ -8,7 +8,6 @@ use Rattle.pq_links.specs.Wires.{wire_of}
 use Rattle.pq_links.specs.Links.{far}
 use Rattle.pq_links.specs.Slots.{no_wire, free_slot, is_free, AreSlots, AreChained, IsGap, ChainsView}
 use Rattle.pq_links.specs.declared.chains.Gap.{Gap}
-use Rattle.pq_match.specs.declared.looked.Looked.{Looked}
 use Rattle.pq_match.specs.declared.runs.Run.{Run}
 use Rattle.pq_match.specs.declared.exchange.Gaps.{Gaps}
 use Rattle.pq_rules.specs.Row.{RowView}
@@ -16,12 +15,13 @@ use Rattle.pq_rules.specs.Renaming.{renamed}
 use Rattle.pq_match.specs.Redex.{RedexView, AreWires, IsMatch, is_chosen, last_place}
 use Rattle.pq_match.specs.First.{IsFirst}
 use Rattle.pq_match.specs.Found.{IsRewritten}
-use Rattle.pq_match.specs.Seek.{HasBit, note_at}
+use Rattle.pq_match.specs.Seek.{HasBit}
+use Rattle.pq_match.specs.Waiting.{StartsView}
 
--- slots, for some starts what a search looked at that found no redex there, and the room that was asked for
+-- slots, which starts wait and what is known of the others, and the room that was asked for
 pub record SlotsView : Type 0 where
   pub gates : List Gate
-  pub tried : List Looked
+  pub starts : StartsView
   pub room : ℕ
 
 -- no gate uses the number that stands for no wire
@@ -119,22 +119,13 @@ pub record ChangesAt (old new : List Gate) (first end mask : ℕ) : Type 0 where
   pub behind : (p : ℕ) → end ≤ p → gate_at old p ≡ gate_at new p
   pub on : (p w : ℕ) → w ≢ no_wire → Touches (gate_at old p) w ⊎ Touches (gate_at new p) w → (gate_at old p ≡ gate_at new p) ⊎ HasBit mask w
 
--- The search of a start that looked at this saw nothing of a rewriting: it came no further than to the first chosen slot,
--- or began behind the run, or looked at none of the marked wires and began at a slot that stays.
-abbrev pub IsApart : List ℕ → Run → ℕ → ℕ → Looked → Type 0
-IsApart places run mask start looked =
-    (looked.reach ≤ slice_index places 0) ⊎ ((run.end ≤ start)
-    ⊎ ((bit_and looked.mask mask ≡ 0) × (start < run.start) × (is_chosen places start ≡ false)))
-
--- what is noted of searches that saw nothing of a rewriting is kept
-pub record AreKeptApart (places : List ℕ) (run : Run) (mask : ℕ) (old new : List Looked) : Type 0 where
-  pub whole : length new ≡ length old
-  pub kept : (start : ℕ) → start < length new → 0 < (note_at new start).reach → note_at new start ≡ note_at old start
-  pub apart : (start : ℕ) → start < length new → 0 < (note_at new start).reach → IsApart places run mask start (note_at new start)
-
 -- the mask has the bits of the wires of all chosen gates
 pub record MarksPlaces (slots : List Gate) (places : List ℕ) (mask : ℕ) : Type 0 where
   pub marked : (k : ℕ) (one : Bool) → k < length places → HasBit mask (wire_of one (gate_at slots (slice_index places k)))
+
+-- the gates at the places don't use the number that stands for no wire
+pub record AreTakenAt (slots : List Gate) (places : List ℕ) : Type 0 where
+  pub own : (k : ℕ) (one : Bool) → k < length places → wire_of one (gate_at slots (slice_index places k)) ≢ no_wire
 
 -- the gates at the places are those of the row's pattern, with its wires led to these
 pub record IsPlaced (slots : List Gate) (row : RowView) (wires places : List ℕ) : Type 0 where

@@ -19,7 +19,9 @@ mod starts;
 #[cfg(test)]
 mod tests;
 mod ties;
-mod tried;
+mod waiting;
+mod waking;
+mod words;
 mod work;
 
 pub use redex::Redex;

@@ -8,6 +8,7 @@ ghost use Rattle.pq_links.specs.Links.{IsNextOn};
 ghost use Rattle.pq_match.specs.Redex.{gate_at};
 ghost use Rattle.pq_match.specs.Search.{IsNext, IsGrown, AreEight};
 ghost use Rattle.pq_match.specs.Seek.{AreLinkedSlots, LooksAtMore, AreLookedAt, IsKnownAt, AreMarked, AreCursors, AreAhead, SeeksFrom, SeeksFull, Seeks, IsRowAt, IsClear, IsSeenAt};
+ghost use Rattle.pq_match.specs.Settled.{AreCandidates, IsStill};
 
 use crate::cursors::{Cursors, lead_to, move_on, next_place};
 use crate::looked::Looked;
@@ -20,6 +21,7 @@ use pq_links::{FAR, NO_WIRE, Sides, next_on};
 use pq_rules::{Rules, Seen, role_of};
 
 /// The first redex of the slots whose first place is the start, and what the search looked at, beside what is noted already.
+#[tactic(auto, using(crate::proofs::Marking::looks_on, crate::proofs::Marking::near_more))]
 pub fn seek_from(
     gates: &[Gate],
     next: &[Sides],
@@ -33,11 +35,30 @@ pub fn seek_from(
     ensures more { LooksAtMore looked.old looked.new }
     ensures finds { SeeksFrom rules.now gates.now start looked.new result }
 {
+    let numbers = rows_ahead(gates, next, rules, start, looked);
+    seek_rows(gates, next, rules, numbers, start, looked)
+}
+
+/// The numbers, ascending, of the rows that may have a redex at the start by what is seen next and next but one on the
+/// last wire of its gate, and what was looked at, beside what is noted already.
+pub fn rows_ahead<'a>(
+    gates: &[Gate],
+    next: &[Sides],
+    rules: &'a Rules,
+    start: u32,
+    looked: &mut Looked,
+) -> &'a [u32]
+    requires linked { AreLinkedSlots gates.now next.now }
+    requires start { start < length gates.now }
+    ensures more { LooksAtMore looked.old looked.new }
+    ensures candidates { AreCandidates rules.now gates.now start looked.new result.now }
+    ensures still { length result.now ≡ 0 → IsStill rules.now gates.now start }
+{
     let gate = gates[start as usize];
     let wire = gate.last_wire();
     if wire == NO_WIRE {
         let _sound = rules.count();
-        return None;
+        return &[];
     }
     let near = next_on(gates, next, start, wire);
     let far = place_behind(gates, next, near, wire);
@@ -47,7 +68,27 @@ pub fn seek_from(
     looked.look_at(near.min(count));
     looked.look_at(far.min(count));
     looked.mark(wire);
-    for number in rules.rows_admitting(gate, one, other) {
+    rules.rows_admitting(gate, one, other)
+}
+
+/// The first redex whose first place is the start, where these are the numbers of the rows that may have one there.
+#[tactic(auto, using(crate::proofs::SeekRow::none_tried_alike))]
+pub fn seek_rows(
+    gates: &[Gate],
+    next: &[Sides],
+    rules: &Rules,
+    numbers: &[u32],
+    start: u32,
+    looked: &mut Looked,
+) -> Option<Redex>
+    requires linked { AreLinkedSlots gates.now next.now }
+    requires start { start < length gates.now }
+    requires reach { start < looked.old.reach }
+    requires candidates { AreCandidates rules.now gates.now start looked.old numbers.now }
+    ensures more { LooksAtMore looked.old looked.new }
+    ensures finds { SeeksFrom rules.now gates.now start looked.new result }
+{
+    for number in numbers {
         if let Some(redex) = seek_row(gates, next, rules, *number, start, looked) {
             return Some(redex);
         }

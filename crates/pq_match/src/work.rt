@@ -1,6 +1,7 @@
 //! Rewriting the first redex of a segment again and again, in slots.
 
-ghost use Rattle.std.specs.Prelude.{◌≡◌, false, length, IfSome, IfNone};
+ghost use Rattle.std.specs.Prelude.{◌≡◌, false, List, length, IfSome, IfNone};
+ghost use Rattle.pq_rules.specs.Row.{RowView};
 ghost use Rattle.pq_match.specs.Redex.{HasNoRedex};
 ghost use Rattle.pq_match.specs.Segment.{held, IsKnown};
 ghost use Rattle.pq_match.specs.Work.{IsFirstRewritten};
@@ -10,12 +11,12 @@ use crate::starts::{are_taken, find_first};
 use pq_rules::Rules;
 
 impl Seg {
-    /// Spreads the gates over slots, where gates leave and come without moving others. Nothing is known of starts. It
-    /// takes no memory.
+    /// Spreads the gates over slots, where gates leave and come without moving others. All starts wait. It takes no
+    /// memory.
     #[tactic(auto, using(crate::proofs::Spreading::spread_gates))]
     pub fn load(&mut self)
         ensures held { held self.new ≡ self.old.items }
-        ensures known { length self.new.work.tried ≡ 0 }
+        ensures known { (rules : List RowView) → IsKnown rules self.new }
         ensures items { self.new.items ≡ self.old.items }
         ensures room { self.new.room ≡ self.old.room }
     {

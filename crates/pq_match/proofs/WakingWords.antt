@@ -1,0 +1,133 @@
+-- The failed starts that wait again, word by word.
+use Rattle.std.proofs.Common.{◌≡◌, ◌≢◌, ℕ, ◌+◌, ◌-◌, ◌*◌, ◌/◌, ◌%◌, ◌^◌, ◌<◌, ◌≤◌, ◌⊎◌, Bool, true, false, List, length, get_or, set, bit_or, bit_and, min, max, inl, inr, refl, sym, ap, subst, ◌∙◌, arith}
+use Rattle.std.specs.Int.{bit_at, bit_not, w64}
+use Rattle.std.proofs.lemmas.Bool.{cases_eq, cases_lt}
+use Rattle.std.proofs.lemmas.Nat.{mod_below, and_le_l}
+use Rattle.std.proofs.lemmas.Nat.Bits.{bit_at_set_same, bit_at_set_other, bit_at_clear_same, bit_at_clear_other, bit_at-zero, bit_at_and, bit_at_or, bit_at_not, bit_at-lt}
+use Rattle.std.proofs.lemmas.List.{get_or-set_same, get_or-set_other, length-set}
+use Rattle.pq_match.specs.Waiting.{HasNumber, IsUnmet, AreWoken, AreMet}
+
+-- a bit less, and a bit more
+pub cleared_less : (word bit : ℕ) → bit < 64 → bit_at word bit ≡ 1 → bit_and word (bit_not w64 (1 * 2 ^ bit % 18446744073709551616)) < word
+cleared_less word bit below has = by (cases_eq (bit_and word (bit_not w64 (1 * 2 ^ bit % 18446744073709551616))) word)
+  where
+    left : ℕ
+    left = bit_and word (bit_not w64 (1 * 2 ^ bit % 18446744073709551616))
+
+    by : (left ≡ word) ⊎ (left ≡ word → ⊥) → left < word
+    by (inl same) = absurd (let clash : 0 ≡ 1 = sym (bit_at_clear_same w64 word bit below) ∙ (ap (λ (x : ℕ). bit_at x bit) same ∙ has) in omega arith)
+    by (inr apart) = omega (arith, and_le_l word (bit_not w64 (1 * 2 ^ bit % 18446744073709551616)))
+
+pub cleared_others : (word bit : ℕ) → bit < 64 → (other : ℕ) → other < 64 → other ≢ bit → bit_at (bit_and word (bit_not w64 (1 * 2 ^ bit % 18446744073709551616))) other ≡ bit_at word other
+cleared_others word bit below other fits apart = bit_at_clear_other w64 word bit below other fits apart
+
+pub more_has : (word bit : ℕ) → bit < 64 → bit_at (bit_or word (1 * 2 ^ bit % 18446744073709551616)) bit ≡ 1
+more_has word bit below = bit_at_set_same w64 word bit below
+
+pub more_keeps : (word bit : ℕ) → bit < 64 → (other : ℕ) → bit_at word other ≡ 1 → bit_at (bit_or word (1 * 2 ^ bit % 18446744073709551616)) other ≡ 1
+more_keeps word bit below other has = by (cases_eq other bit)
+  where
+    by : (other ≡ bit) ⊎ (other ≡ bit → ⊥) → bit_at (bit_or word (1 * 2 ^ bit % 18446744073709551616)) other ≡ 1
+    by (inl same) = ap (bit_at (bit_or word (1 * 2 ^ bit % 18446744073709551616))) same ∙ more_has word bit below
+    by (inr apart) = bit_at_set_other w64 word bit below other apart ∙ has
+
+-- what is left of a word, and what was found in the rest
+pub record AreMetBut (left rest base : ℕ) (reach masks : List ℕ) (first wires found : ℕ) : Type 0 where
+  pub each : (bit : ℕ) → bit < 64 → bit_at left bit ≡ 1 → (bit_at rest bit ≡ 1) ⊎ ((bit_at found bit ≡ 1) ⊎ IsUnmet reach masks first wires (base + bit))
+
+pub none_met : (left base : ℕ) (reach masks : List ℕ) (first wires : ℕ) → AreMetBut left left base reach masks first wires 0
+none_met left base reach masks first wires = record { each = λ bit below has. inl has }
+
+pub all_met : {left base : ℕ} {reach masks : List ℕ} {first wires found : ℕ} → AreMetBut left 0 base reach masks first wires found → AreMet left base reach masks first wires found
+all_met {left} {base} {reach} {masks} {first} {wires} {found} met = record { each = λ bit below has. by bit (met.each bit below has) }
+  where
+    by : (bit : ℕ) → (bit_at 0 bit ≡ 1) ⊎ ((bit_at found bit ≡ 1) ⊎ IsUnmet reach masks first wires (base + bit)) → (bit_at found bit ≡ 1) ⊎ IsUnmet reach masks first wires (base + bit)
+    by bit (inl clash) = absurd (let none : 0 ≡ 1 = sym (bit_at-zero bit) ∙ clash in omega arith)
+    by bit (inr is) = is
+
+-- one bit more
+pub met_more : {left rest base : ℕ} {reach masks : List ℕ} {first wires found : ℕ} (bit then_rest then_found : ℕ) (met : Bool) → AreMetBut left rest base reach masks first wires found →
+    (met ≡ false → IsUnmet reach masks first wires (base + bit)) → (met ≡ true → bit_at then_found bit ≡ 1) →
+    ((other : ℕ) → other < 64 → other ≢ bit → bit_at then_rest other ≡ bit_at rest other) → ((other : ℕ) → bit_at found other ≡ 1 → bit_at then_found other ≡ 1) →
+    AreMetBut left then_rest base reach masks first wires then_found
+met_more {left} {rest} {base} {reach} {masks} {first} {wires} {found} bit then_rest then_found met before unmet is_found others kept = record {
+  each = λ other below has. by other below (before.each other below has) (cases_eq other bit);
+}
+  where
+    here : (m : Bool) → met ≡ m → (bit_at then_found bit ≡ 1) ⊎ IsUnmet reach masks first wires (base + bit)
+    here true is = inl (is_found is)
+    here false is = inr (unmet is)
+
+    by : (other : ℕ) → other < 64 → (bit_at rest other ≡ 1) ⊎ ((bit_at found other ≡ 1) ⊎ IsUnmet reach masks first wires (base + other)) → (other ≡ bit) ⊎ (other ≡ bit → ⊥) →
+        (bit_at then_rest other ≡ 1) ⊎ ((bit_at then_found other ≡ 1) ⊎ IsUnmet reach masks first wires (base + other))
+    by other below (inl has) (inl same) =
+        inr (subst (λ (b : ℕ). (bit_at then_found b ≡ 1) ⊎ IsUnmet reach masks first wires (base + b)) (sym same) (here met refl))
+    by other below (inl has) (inr apart) = inl (others other below apart ∙ has)
+    by other below (inr (inl has)) _ = inr (inl (kept other has))
+    by other below (inr (inr is)) _ = inr (inr is)
+
+-- the first words were gone through
+pub record AreWokenTo (waiting failed reach masks : List ℕ) (first wires count : ℕ) : Type 0 where
+  pub each : (start : ℕ) → start < 64 * count → HasNumber failed start → (HasNumber waiting start → ⊥) → IsUnmet reach masks first wires start
+
+pub woken_none : (waiting failed reach masks : List ℕ) (first wires : ℕ) → AreWokenTo waiting failed reach masks first wires 0
+woken_none waiting failed reach masks first wires = record { each = λ start below has sleeps. absurd (omega arith) }
+
+pub woken_all : {waiting failed reach masks : List ℕ} {first wires : ℕ} (end count : ℕ) → count ≡ min (length waiting) (end / 64 + 1) → end ≤ 64 * length waiting →
+    AreWokenTo waiting failed reach masks first wires count → AreWoken waiting failed reach masks first end wires
+woken_all end count is inside woken = record { each = λ start below has sleeps. woken.each start (omega (arith, is)) has sleeps }
+
+-- bits of a word with more bits
+has_or : (one other bit : ℕ) → (bit_at one bit ≡ 1) ⊎ (bit_at other bit ≡ 1) → bit_at (bit_or one other) bit ≡ 1
+has_or one other bit (inl has) = omega (arith, bit_at_or one other bit, has, bit_at-lt other bit)
+has_or one other bit (inr has) = omega (arith, bit_at_or one other bit, has, bit_at-lt one bit)
+
+-- a bit that isn't set is left
+is_left : (failed woken bit : ℕ) → bit < 64 → woken < 2 ^ 64 → bit_at failed bit ≡ 1 → (bit_at woken bit ≡ 1 → ⊥) → bit_at (bit_and failed (bit_not w64 woken)) bit ≡ 1
+is_left failed woken bit below fits has sleeps =
+    let zero_there : bit_at woken bit ≡ 0 = by (cases_eq (bit_at woken bit) 1) (bit_at-lt woken bit) in
+    omega (arith, bit_at_and failed (bit_not w64 woken) bit, has, bit_at_not w64 woken bit fits below, zero_there)
+  where
+    by : (bit_at woken bit ≡ 1) ⊎ (bit_at woken bit ≡ 1 → ⊥) → bit_at woken bit < 2 → bit_at woken bit ≡ 0
+    by (inl one) small = absurd (sleeps one)
+    by (inr other) small = omega arith
+
+-- a word with more bits
+pub set_keeps : (waiting : List ℕ) (count found : ℕ) → count < length waiting → (start : ℕ) → HasNumber waiting start → HasNumber (set waiting count (bit_or (get_or waiting count 0) found)) start
+set_keeps waiting count found inside start it = by (cases_eq (start / 64) count)
+  where
+    by : (start / 64 ≡ count) ⊎ (start / 64 ≡ count → ⊥) → HasNumber (set waiting count (bit_or (get_or waiting count 0) found)) start
+    by (inl same) = record {
+      has = ap (λ (k : ℕ). bit_at (get_or (set waiting count (bit_or (get_or waiting count 0) found)) k 0) (start % 64)) same
+          ∙ (ap (λ (x : ℕ). bit_at x (start % 64)) (get_or-set_same waiting count (bit_or (get_or waiting count 0) found) 0 inside)
+          ∙ has_or (get_or waiting count 0) found (start % 64) (inl (ap (λ (k : ℕ). bit_at (get_or waiting k 0) (start % 64)) (sym same) ∙ it.has)));
+    }
+    by (inr apart) = record { has = ap (λ (x : ℕ). bit_at x (start % 64)) (get_or-set_other waiting count (start / 64) (bit_or (get_or waiting count 0) found) 0 apart) ∙ it.has }
+
+-- one word more
+pub woken_more : {waiting failed reach masks : List ℕ} {first wires count : ℕ} (found : ℕ) → count < length waiting → get_or waiting count 0 < 18446744073709551616 →
+    AreMet (bit_and (get_or failed count 0) (bit_not w64 (get_or waiting count 0))) (count * 64) reach masks first wires found →
+    AreWokenTo waiting failed reach masks first wires count → AreWokenTo (set waiting count (bit_or (get_or waiting count 0) found)) failed reach masks first wires (count + 1)
+woken_more {waiting} {failed} {reach} {masks} {first} {wires} {count} found inside fits met before = record { each = λ start below has sleeps. by start below has sleeps (cases_lt start (64 * count)) }
+  where
+    found_or : (start bit : ℕ) → (bit_at (bit_or (get_or waiting count 0) found) bit ≡ 1 → ⊥) → (bit_at found bit ≡ 1) ⊎ IsUnmet reach masks first wires (count * 64 + bit) →
+        count * 64 + bit ≡ start → IsUnmet reach masks first wires start
+    found_or start bit asleep (inl one) parts = absurd (asleep (has_or (get_or waiting count 0) found bit (inr one)))
+    found_or start bit asleep (inr is) parts = subst (IsUnmet reach masks first wires) parts is
+
+    by : (start : ℕ) → start < 64 * (count + 1) → HasNumber failed start → (HasNumber (set waiting count (bit_or (get_or waiting count 0) found)) start → ⊥) →
+        (start < 64 * count) ⊎ (64 * count ≤ start) → IsUnmet reach masks first wires start
+    by start below has sleeps (inl less) = before.each start less has (λ it. sleeps (set_keeps waiting count found inside start it))
+    by start below has sleeps (inr here) =
+        let word : start / 64 ≡ count = omega arith in
+        let parts : count * 64 + start % 64 ≡ start = omega arith in
+        let bit : start % 64 < 64 = mod_below start 64 (omega arith) in
+        let failed_there : bit_at (get_or failed count 0) (start % 64) ≡ 1 = ap (λ (k : ℕ). bit_at (get_or failed k 0) (start % 64)) (sym word) ∙ has.has in
+        let asleep : bit_at (bit_or (get_or waiting count 0) found) (start % 64) ≡ 1 → ⊥ =
+        λ one. sleeps (record {
+          has = ap (λ (k : ℕ). bit_at (get_or (set waiting count (bit_or (get_or waiting count 0) found)) k 0) (start % 64)) word
+              ∙ (ap (λ (x : ℕ). bit_at x (start % 64)) (get_or-set_same waiting count (bit_or (get_or waiting count 0) found) 0 inside) ∙ one);
+        }) in
+        found_or start (start % 64) asleep
+        (met.each (start % 64) bit (is_left (get_or failed count 0) (get_or waiting count 0) (start % 64) bit fits failed_there (λ one. asleep (has_or (get_or waiting count 0) found (start % 64) (inl one)))))
+        parts
