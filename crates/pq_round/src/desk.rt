@@ -1,4 +1,4 @@
-ghost use Rattle.std.specs.Prelude.{◌≡◌, ◌≤◌, length, IfOk};
+ghost use Rattle.std.specs.Prelude.{◌≡◌, ◌≤◌, [], length, IfOk};
 ghost use Rattle.pq_limits.specs.declared.TheConstants.{MAX_SEGMENT};
 ghost use Rattle.pq_round.specs.Results.{IsResultOf};
 ghost use Rattle.pq_round.specs.Desks.{HasRoomFor};
@@ -11,45 +11,51 @@ use pq_oracle::Worked;
 use pq_rules::Rules;
 use std::alloc::Global;
 
-/// The room in which one job is worked.
+/// The room in which one job is worked, beside the worker's segment: it becomes a part of the result.
 #[derive(Drop)]
 pub struct Desk {
     /// For the copy of the gates that go in.
     pub input: GateList,
 
-    /// For the segment that is rewritten.
-    pub seg: Seg,
+    /// For the segment's next gates: those that it has now are moved into the result.
+    pub next: GateList,
 }
 
 impl Desk {
-    /// A desk with room for so many gates, at most 2,048.
+    /// A desk with room for so many gates, at most 2,048, in each list.
     pub fn reserve(alloc: Global, room: u32) -> Result<Desk, OutOfMemory>
         requires { room ≤ MAX_SEGMENT }
         ensures { IfOk result (HasRoomFor room) }
     {
         let input = GateList::with_room(alloc, room)?;
-        let seg = Seg::reserve(alloc, room)?;
-        Ok(Desk { input, seg })
+        let next = GateList::with_room(alloc, room)?;
+        Ok(Desk { input, next })
     }
 
-    /// Gives the gates at these places to the oracle, under this ticket. It takes no memory.
+    /// Gives the gates at these places to the oracle, under this ticket, in a segment that is empty before and afterwards.
+    /// It takes no memory.
     pub fn work<'r>(
         self,
+        seg: &mut Seg,
         cells: &Cells,
         places: &[u64],
         rules: &'r Rules,
         ticket: u64,
     ) -> Worked<'r>
-        requires { HasRoomFor (length places.now) self }
-        ensures { IsResultOf cells.now places.now rules.entry.now ticket result }
+        requires empty { seg.old.items ≡ [] }
+        requires fits { length places.now ≤ seg.old.room }
+        requires room { HasRoomFor seg.old.room self }
+        ensures result { IsResultOf cells.now places.now rules.entry.now ticket result }
+        ensures emptied { seg.new.items ≡ [] }
+        ensures kept { seg.new.room ≡ seg.old.room }
     {
-        let Desk { mut input, mut seg } = self;
+        let Desk { mut input, next } = self;
         for place in places {
             if let Some(gate) = cells.gate_at(*place) {
                 input.push_kept(gate);
                 seg.push(gate);
             }
         }
-        Worked::of(rules, ticket, input, seg)
+        Worked::of_lent(rules, ticket, input, seg, next)
     }
 }

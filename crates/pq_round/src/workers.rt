@@ -1,4 +1,4 @@
-ghost use Rattle.std.specs.Prelude.{◌≡◌, ◌*◌, ◌++◌, ◌<◌, ◌≤◌, true, false, length, IfOk, All, Contains};
+ghost use Rattle.std.specs.Prelude.{◌≡◌, ◌*◌, ◌++◌, ◌<◌, ◌≤◌, true, false, [], length, IfOk, All, Contains};
 ghost use Rattle.std.specs.List.Sorted.{IsStrictlyIncreasing};
 ghost use Rattle.std.specs.Thread.{IsSync};
 ghost use Rattle.pq_limits.specs.Limits.{IsOmega};
@@ -14,6 +14,7 @@ use crate::gate::WorkGate;
 use pq_array::Cells;
 use pq_board::{Board, Pass};
 use pq_list::OutOfMemory;
+use pq_match::Seg;
 use pq_oracle::Worked;
 use pq_rules::Rules;
 use std::alloc::Global;
@@ -151,20 +152,24 @@ fn work_alone<'r, G: WorkGate>(
     ensures done { IfOk result (λ list. HasDone context.now.cells.now context.now.rules.now pass.new.view list.items) }
     ensures late { IfOk result (λ list. 1 ≤ late context.now.board.now.plan pass.new.view.tickets) }
 {
+    let mut seg = Seg::reserve(alloc, 2 * context.omega)?;
     let mut results = Vec::new(alloc);
-    'jobs: while work_next(alloc, context, pass, &mut results)? {}
+    'jobs: while work_next(alloc, context, pass, &mut seg, &mut results)? {}
     Ok(results)
 }
 
-/// Claims the next job and works it, and says whether there was one. The room is taken before the claim: that of the
-/// segment, of the copy of its input, and of the result.
+/// Claims the next job and works it in the worker's segment, and says whether there was one. The room is taken before the
+/// claim: that of the copy of the input, of the output, and of the result.
 fn work_next<'r, G: WorkGate>(
     alloc: Global,
     context: &RoundContext<'_, 'r, G>,
     pass: &mut Pass,
+    seg: &mut Seg,
     results: &mut Vec<Worked<'r>>,
 ) -> Result<bool, OutOfMemory>
     requires omega { IsOmega context.now.omega }
+    requires empty { seg.old.items ≡ [] }
+    requires room { seg.old.room ≡ 2 * context.now.omega }
     requires sound { All IsSound context.now.rules.now }
     requires short { All (λ places. length places ≤ 2 * context.now.omega) context.now.board.now.plan.jobs }
     requires belongs { BelongsTo context.now.board.now pass.old }
@@ -175,13 +180,15 @@ fn work_next<'r, G: WorkGate>(
     ensures done { IfOk result (λ more. HasDone context.now.cells.now context.now.rules.now pass.new.view results.new.items) }
     ensures late { IfOk result (λ more. more ≡ false → 1 ≤ late context.now.board.now.plan pass.new.view.tickets) }
     ensures one { IfOk result (λ more. more ≡ true → HasDrawnOne pass.old.view pass.new.view) }
+    ensures emptied { seg.new.items ≡ [] }
+    ensures kept { seg.new.room ≡ seg.old.room }
 {
     let desk = Desk::reserve(alloc, 2 * context.omega)?;
     results.reserve(1)?;
     match context.board.claim(pass) {
         Some(ticket) => {
             let places = context.board.places(ticket);
-            results.push_reserved(work(context, pass, ticket, places, desk));
+            results.push_reserved(work(context, pass, seg, ticket, places, desk));
             Ok(true)
         }
         None => Ok(false),
@@ -193,6 +200,7 @@ fn work_next<'r, G: WorkGate>(
 fn work<'r, G: WorkGate>(
     context: &RoundContext<'_, 'r, G>,
     pass: &mut Pass,
+    seg: &mut Seg,
     ticket: u64,
     places: &[u64],
     desk: Desk,
@@ -203,14 +211,18 @@ fn work<'r, G: WorkGate>(
     requires held { Contains pass.old.view.tickets ticket }
     requires fresh { All (λ place. Contains (lowered_places pass.old.view.lowered) place → ⊥) (job context.now.board.now.plan ticket) }
     requires places { places.now ≡ job context.now.board.now.plan ticket }
-    requires room { HasRoomFor (length places.now) desk }
+    requires empty { seg.old.items ≡ [] }
+    requires fits { length places.now ≤ seg.old.room }
+    requires room { HasRoomFor seg.old.room desk }
     ensures board { pass.new.board ≡ pass.old.board }
     ensures lowered { HasLowered pass.old.view pass.new.view (given_up context.now.board.now.plan.jobs result) }
     ensures ticket { result.ticket ≡ ticket }
     ensures result { IsOfItsJob context.now.cells.now context.now.board.now.plan.jobs context.now.rules.now result }
+    ensures emptied { seg.new.items ≡ [] }
+    ensures kept { seg.new.room ≡ seg.old.room }
 {
     context.gate.before(ticket);
-    let worked = desk.work(context.cells, places, context.rules, ticket);
+    let worked = desk.work(seg, context.cells, places, context.rules, ticket);
     give_up(context.board, pass, &worked);
     context.gate.after(ticket);
     worked

@@ -22,7 +22,7 @@ loop-place-preserved c = elim c.match-gate_at.branch [
         gathered = cc;
         same = cc;
         input_room = omega (arith, room, c.loop-place.invariant.input_room);
-        seg_room = omega (arith, seg_room, c.loop-place.invariant.seg_room);
+        seg_room = seg_room ∙ c.loop-place.invariant.seg_room;
         few = omega (arith, longer, c.loop-place.invariant.few);
       }
   | in_default w ↦
@@ -38,7 +38,7 @@ loop-place-preserved c = elim c.match-gate_at.branch [
         gathered = cc;
         same = cc;
         input_room = omega (arith, room, c.loop-place.invariant.input_room);
-        seg_room = omega (arith, seg_room, c.loop-place.invariant.seg_room);
+        seg_room = seg_room ∙ c.loop-place.invariant.seg_room;
         few = omega (arith, longer, c.loop-place.invariant.few);
       }
 ]

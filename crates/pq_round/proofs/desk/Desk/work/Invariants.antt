@@ -7,6 +7,6 @@ invariant-loop-place l = record {
   gathered : l.input.items ≡ gates_at l.cells (take l.place-index l.places);
   same : l.seg.items ≡ l.input.items;
   input_room : length l.places ≤ l.input.room;
-  seg_room : length l.places ≤ l.seg.room;
+  seg_room : l.seg.room ≡ l.fn.seg.room;
   few : length l.input.items ≤ l.place-index;
 }
