@@ -5,5 +5,6 @@ mod Noting
 mod Optimising
 mod Statuses
 mod Working
+mod Pieces
 mod OneOutput
 mod Logging

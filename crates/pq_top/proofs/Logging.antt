@@ -1,11 +1,9 @@
 -- The log of receipts, from the rounds to the status.
 use Rattle.std.proofs.Common.{◌≡◌, ℕ, ◌⊎◌, inl, inr, true, false, List, [], map, Result, Ok, Err, refl, sym, subst, ◌∙◌, arith}
-use Rattle.std.specs.Prelude.{IfErr, OnOk}
+use Rattle.std.specs.Prelude.{OnOk}
 use Rattle.std.proofs.lemmas.List.{append-nil}
 use Rattle.pq_gate.specs.declared.gate.Gate.{Gate}
 use Rattle.pq_board.specs.Steps.{Numbers}
-use Rattle.pq_read.specs.declared.refusal.ReadError.{ReadError}
-use Rattle.pq_read.specs.declared.refusal.ReadError.TheVariants as errors
 use Rattle.pq_rules.specs.Row.{RowView}
 use Rattle.pq_rules.specs.Table.{builtin_rows}
 use Rattle.pq_loop.specs.Loops.{LoopView}
@@ -18,8 +16,8 @@ use Rattle.pq_top.specs.declared.answer.Answer.TheVariants.{Done, Usage, Refused
 use Rattle.pq_top.specs.declared.answer.Output.{Output}
 use Rattle.pq_top.specs.Device.{Moved}
 use Rattle.pq_top.specs.Request.{AskFor}
-use Rattle.pq_top.specs.Work.{FailsFor, WritesOutput, answered_by, status_of}
-use Rattle.pq_top.specs.Log.{Follows, LogsRounds, Logs, HasLogged, LogsFor, LogsFailure, LogsError, LogsBy}
+use Rattle.pq_top.specs.Work.{FailsFor, WritesOutput, status_of}
+use Rattle.pq_top.specs.Log.{Follows, LogsRounds, Logs, HasLogged, LogsFor, LogsFailure, LogsBy}
 use Rattle.pq_top.proofs.Leading.{IsOnItsWay}
 
 -- what is logged at the end
@@ -55,13 +53,6 @@ same_follows old new is = ([], is ∙ sym (append-nil old))
 -- the same where the gates that were handed on are a program's
 pub rounds_of : (w : ℕ) (given gates : List Gate) (old new : List Numbers) → given ≡ gates → LogsRounds w given old new → LogsRounds w gates old new
 rounds_of w given gates old new is logs = subst (λ (g : List Gate). LogsRounds w g old new) is logs
-
--- a text's error is that of its command
-pub answered_logs : (made : Result Output ReadError) (result : Result Output Answer) (old new : List Numbers) → result ≡ answered_by made → IfErr made (LogsError old new) →
-    IfErr result (LogsFailure old new)
-answered_logs (Ok output) result old new e logs = subst (λ (r : Result Output Answer). IfErr r (LogsFailure old new)) (sym e) tt
-answered_logs (Err (errors.Refused fault)) result old new e logs = subst (λ (r : Result Output Answer). IfErr r (LogsFailure old new)) (sym e) logs
-answered_logs (Err errors.OutOfMemory) result old new e logs = subst (λ (r : Result Output Answer). IfErr r (LogsFailure old new)) (sym e) logs
 
 -- where none was made
 pub failed_logs : (words : List (List ℕ)) (input : Moved) (old new : List Numbers) (wanted : Settings) (answer : Answer) → FailsFor wanted input answer → LogsFailure old new answer →

@@ -1,20 +1,13 @@
 -- What the parts of the work mean together.
-use Rattle.std.proofs.Common.{◌≡◌, ℕ, List, Option, None, Some, Result, Ok, Err, refl, sym, subst}
-use Rattle.std.specs.Prelude.{IfErr, IsSome}
-use Rattle.pq_limits.specs.declared.TheConstants.{MAX_INPUT}
-use Rattle.pq_io.specs.Whole.{ReadsToEnd}
+use Rattle.std.proofs.Common.{◌≡◌, ℕ, List, Option, None, Some, refl, sym, subst}
+use Rattle.std.specs.Prelude.{IsSome}
 use Rattle.pq_read.specs.declared.program.Options.{Options}
-use Rattle.pq_read.specs.declared.refusal.ReadError.{ReadError}
-use Rattle.pq_read.specs.declared.refusal.ReadError.TheVariants as errors
-use Rattle.pq_read.specs.Reads.{IsRefusedFor}
 use Rattle.pq_command.specs.declared.settings.Settings.{Settings}
 use Rattle.pq_top.specs.declared.answer.Answer.{Answer}
 use Rattle.pq_top.specs.declared.answer.Answer.TheVariants.{Refused, ReadFault, OutOfMemory}
-use Rattle.pq_top.specs.declared.answer.Output.{Output}
-use Rattle.pq_top.specs.declared.answer.Refusal.TheVariants.{Text, TooLong}
 use Rattle.pq_top.specs.Device.{Moved}
 use Rattle.pq_top.specs.Request.{AskFor, reads_by}
-use Rattle.pq_top.specs.Work.{Means, FailsFor, FailsToRead, answered_by}
+use Rattle.pq_top.specs.Work.{Means, FailsFor, FailsToRead}
 
 some_way : (way : Option Options) → IsSome way → (options : Options) × (way ≡ Some options)
 some_way None some = absurd (cc)
@@ -31,21 +24,10 @@ failed_means words wanted input output (ReadFault taken) asks fails =
 failed_means words wanted input output OutOfMemory asks fails = tt
 failed_means words wanted input output _ asks fails = absurd fails
 
--- a text that is refused is none for the command that reads it
-pub answered_fails : (wanted : Settings) (options : Options) (input : Moved) (text : List ℕ) (made : Result Output ReadError) (result : Result Output Answer) →
-    reads_by wanted ≡ Some options → ReadsToEnd input.before input.after MAX_INPUT text → result ≡ answered_by made →
-    IfErr made (IsRefusedFor text options) → IfErr result (FailsFor wanted input)
-answered_fails wanted options input text (Ok output) result way reads e refused = subst (λ (r : Result Output Answer). IfErr r (FailsFor wanted input)) (sym e) tt
-answered_fails wanted options input text (Err (errors.Refused fault)) result way reads e refused =
-    let P : Result Output Answer → Type 0 = λ r. IfErr r (FailsFor wanted input) in
-    let fails : FailsFor wanted input (Refused (Text fault)) = (options, way, (text, reads, refused)) in
-    subst P (sym e) fails
-answered_fails wanted options input text (Err errors.OutOfMemory) result way reads e refused = subst (λ (r : Result Output Answer). IfErr r (FailsFor wanted input)) (sym e) tt
-
 -- a source that can't be read fails for each command that reads it
 pub fails_to_read : (wanted : Settings) (options : Options) (input : Moved) (answer : Answer) → reads_by wanted ≡ Some options →
-    FailsToRead input answer → FailsFor wanted input answer
-fails_to_read wanted options input (Refused TooLong) way fails = (options, way, fails)
+    FailsToRead options input answer → FailsFor wanted input answer
+fails_to_read wanted options input (Refused refusal) way fails = (options, way, fails)
 fails_to_read wanted options input (ReadFault taken) way fails = (subst (λ (o : Option Options). IsSome o) (sym way) refl, fails)
 fails_to_read wanted options input OutOfMemory way fails = tt
 fails_to_read wanted options input _ way fails = absurd fails

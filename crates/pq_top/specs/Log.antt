@@ -3,8 +3,6 @@ use Rattle.std.specs.Prelude.{◌≡◌, ℕ, true, List, ◌++◌, map}
 use Rattle.pq_gate.specs.declared.gate.Gate.{Gate}
 use Rattle.pq_text.specs.Program.{ProgramView}
 use Rattle.pq_read.specs.declared.program.Options.{Options}
-use Rattle.pq_read.specs.declared.refusal.ReadError.{ReadError}
-use Rattle.pq_read.specs.declared.refusal.ReadError.TheVariants as errors
 use Rattle.pq_read.specs.Reads.{Reads}
 use Rattle.pq_rules.specs.Table.{builtin_rows}
 use Rattle.pq_board.specs.Steps.{Numbers}
@@ -61,11 +59,6 @@ pub record LogsFor (wanted : Settings) (input : Moved) (old new : List Numbers) 
 abbrev pub LogsFailure : List Numbers → List Numbers → Answer → Type 0
 LogsFailure old new OutOfMemory = Follows old new
 LogsFailure old new _ = new ≡ old
-
--- the same for a text
-abbrev pub LogsError : List Numbers → List Numbers → ReadError → Type 0
-LogsError old new errors.OutOfMemory = Follows old new
-LogsError old new (errors.Refused fault) = new ≡ old
 
 -- what an answer means for the log
 abbrev pub LogsBy : List (List ℕ) → Moved → List Numbers → List Numbers → Answer → Type 0

@@ -1,16 +1,18 @@
 -- What came of the work, before its note is put and its status answered.
-use Rattle.std.specs.Prelude.{◌≡◌, ℕ, ◌+◌, Bool, if◌then◌else◌, List, [], Some, IsSome, Result, Ok, Err}
+use Rattle.std.specs.Prelude.{◌≡◌, ℕ, Bool, if◌then◌else◌, List, [], Some, IsSome, Err}
 use Rattle.std.specs.Io.KnownBytes.{Appends}
 use Rattle.pq_limits.specs.declared.TheConstants.{MAX_INPUT}
-use Rattle.pq_io.specs.Whole.{ReadsUpToFault, WritesUpToFault, TakesFirst}
+use Rattle.pq_io.specs.Whole.{ReadsToEnd, ReadsUpToFault, WritesUpToFault}
 use Rattle.pq_read.specs.declared.program.Options.{Options}
-use Rattle.pq_read.specs.declared.refusal.ReadError.{ReadError}
-use Rattle.pq_read.specs.declared.refusal.ReadError.TheVariants as errors
+use Rattle.pq_read.specs.declared.program.Program.{Program}
+use Rattle.pq_read.specs.Environment.{view}
+use Rattle.pq_read.specs.Reads.{Reads}
+use Rattle.pq_read.specs.Feeding.{ReaderView, StandsFor}
+use Rattle.pq_text.specs.WellFormed.{WellFormed}
 use Rattle.pq_command.specs.declared.settings.Settings.{Settings}
 use Rattle.pq_command.specs.Asked.{asked}
 use Rattle.pq_top.specs.declared.answer.Answer.{Answer}
 use Rattle.pq_top.specs.declared.answer.Output.{Output}
-use Rattle.pq_top.specs.declared.answer.Refusal.TheVariants.{Text, TooLong}
 use Rattle.pq_top.specs.declared.answer.Answer.TheVariants.{Done, Usage, Refused, ReadFault, WriteFault, OutOfMemory}
 use Rattle.pq_top.specs.Device.{Moved}
 use Rattle.pq_top.specs.Request.{reads_by}
@@ -65,12 +67,25 @@ note_line (ReadFault taken) = read_fault_line taken
 note_line (WriteFault sent) = write_fault_line sent
 note_line OutOfMemory = out_of_memory_line
 
--- the source failed, or gave too many bytes, whatever the settings that make a command read it
-abbrev pub FailsToRead : Moved → Answer → Type 0
-FailsToRead input (Refused TooLong) = TakesFirst input.before input.after (MAX_INPUT + 1)
-FailsToRead input (ReadFault taken) = ReadsUpToFault input.before input.after input.was input.now MAX_INPUT taken
-FailsToRead input OutOfMemory = Unit {0}
-FailsToRead input _ = ⊥
+-- a reader was fed all that the source gave, which is no more than the limit
+pub record HasFed (input : Moved) (reader : ReaderView) : Type 0 where
+  pub text : List ℕ
+  pub reads : ReadsToEnd input.before input.after MAX_INPUT text
+  pub stands : StandsFor reader text
+
+-- the source was read to its end, and its text stands for a well formed program
+pub record HasProgram (options : Options) (input : Moved) (program : Program) : Type 0 where
+  pub text : List ℕ
+  pub reads : ReadsToEnd input.before input.after MAX_INPUT text
+  pub read : Reads text options (view program)
+  pub formed : WellFormed (view program)
+
+-- the source failed, or it is refused
+abbrev pub FailsToRead : Options → Moved → Answer → Type 0
+FailsToRead options input (Refused refusal) = Refuses options input refusal
+FailsToRead options input (ReadFault taken) = ReadsUpToFault input.before input.after input.was input.now MAX_INPUT taken
+FailsToRead options input OutOfMemory = Unit {0}
+FailsToRead options input _ = ⊥
 
 -- an output comes of the settings and the text that was read
 pub record Gives (wanted : Settings) (input : Moved) (output : Output) : Type 0 where
@@ -90,9 +105,3 @@ abbrev pub WritesOutput : Moved → Output → Answer → Type 0
 WritesOutput device output (Done found) = (found ≡ output.found) × Appends device.before device.after output.text.items
 WritesOutput device output (WriteFault sent) = WritesUpToFault device.before device.after device.was device.now output.text.items sent
 WritesOutput device output _ = ⊥
-
--- what a text gave, where its output isn't made with the answer for its fault
-abbrev pub answered_by : Result Output ReadError → Result Output Answer
-answered_by (Ok output) = Ok output
-answered_by (Err (errors.Refused fault)) = Err (Refused (Text fault))
-answered_by (Err errors.OutOfMemory) = Err OutOfMemory

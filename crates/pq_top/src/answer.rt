@@ -1,20 +1,19 @@
 ghost use Rattle.std.specs.Prelude.{◌≡◌, None, map, IfOk, IfErr};
 ghost use Rattle.std.specs.String.{string_bytes};
-ghost use Rattle.pq_io.specs.Whole.{ReadsToEnd};
 ghost use Rattle.pq_command.specs.Ranges.{IsInRange};
 ghost use Rattle.pq_top.specs.declared.answer.Answer.TheVariants.{OutOfMemory};
 ghost use Rattle.pq_top.specs.Device.{moved};
 ghost use Rattle.pq_top.specs.Request.{AskToMake, reads_by};
 ghost use Rattle.pq_top.specs.Log.{LogsBy, LogsFor, LogsFailure};
-ghost use Rattle.pq_top.specs.Work.{Means, LeavesSource, LeavesSink, Gives, FailsFor, FailsToRead, WritesOutput, answered_by};
+ghost use Rattle.pq_top.specs.Work.{Means, LeavesSource, LeavesSink, Gives, FailsFor, WritesOutput};
 
 use crate::check::checked;
+use crate::feeding::source_program;
 use crate::optimise::{benched, generated_text, optimised};
 use pq_command::{Settings, UsageFault, WordsError, read_words};
-use pq_io::{ByteList, ReadWhole, Sink, Source, read_whole, write_whole};
-use pq_limits::MAX_INPUT;
+use pq_io::{ByteList, Sink, Source, write_whole};
 use pq_loop::Receipt;
-use pq_read::{Options, ReadError};
+use pq_read::Options;
 use pq_round::WorkGate;
 use std::alloc::{AllocError, Global};
 use std::thread::Threads;
@@ -118,24 +117,17 @@ fn output_of<R: Threads + Sync, S: Source, G: WorkGate>(
             workers,
             drop_barriers,
         } => {
-            let text = source_text(alloc, source)?;
-            answered(optimised(
-                rt,
-                alloc,
-                text,
-                Options { drop_barriers },
-                omega,
-                workers,
-                log,
-                gate,
-            ))
+            let program = source_program(alloc, source, Options { drop_barriers })?;
+            let text = optimised(rt, alloc, program, omega, workers, log, gate)?;
+            Ok(Output { text, found: false })
         },
         Settings::Check {
             omega,
             drop_barriers,
         } => {
-            let text = source_text(alloc, source)?;
-            answered(checked(alloc, text, Options { drop_barriers }, omega))
+            let program = source_program(alloc, source, Options { drop_barriers })?;
+            let output = checked(alloc, program, omega)?;
+            Ok(output)
         },
         Settings::Gen {
             seed,
@@ -155,29 +147,5 @@ fn output_of<R: Threads + Sync, S: Source, G: WorkGate>(
             let text = benched(rt, alloc, omega, workers, seed, qubits, gates, log, gate)?;
             Ok(Output { text, found: false })
         },
-    }
-}
-
-/// The output, or the answer where there is none.
-fn answered(made: Result<Output, ReadError>) -> Result<Output, Answer>
-    ensures { result ≡ answered_by made }
-{
-    match made {
-        Ok(output) => Ok(output),
-        Err(ReadError::Refused(fault)) => Err(Answer::Refused(Refusal::Text(fault))),
-        Err(ReadError::OutOfMemory) => Err(Answer::OutOfMemory),
-    }
-}
-
-/// The whole text that the source gives.
-fn source_text<S: Source>(alloc: Global, source: &mut S) -> Result<ByteList, Answer>
-    ensures text { IfOk result (λ text. ReadsToEnd (S.left source.old) (S.left source.new) MAX_INPUT text.items) }
-    ensures fault { IfErr result (FailsToRead (moved S.left S.faults source.old source.new)) }
-{
-    match read_whole(alloc, source, MAX_INPUT) {
-        ReadWhole::Bytes(text) => Ok(text),
-        ReadWhole::Failed { taken } => Err(Answer::ReadFault { taken }),
-        ReadWhole::TooLong => Err(Answer::Refused(Refusal::TooLong)),
-        ReadWhole::OutOfMemory => Err(Answer::OutOfMemory),
     }
 }

@@ -1,35 +1,29 @@
-ghost use Rattle.std.specs.Prelude.{◌≡◌, ◌≤◌, ◌++◌, ℕ, List, length, flat_map, IfOk, IfErr, OnOk};
+ghost use Rattle.std.specs.Prelude.{◌≡◌, ◌≤◌, ◌++◌, ℕ, List, flat_map, IfOk, OnOk};
 ghost use Rattle.pq_limits.specs.Limits.{IsOmega};
 ghost use Rattle.pq_match.specs.Found.{seen};
-ghost use Rattle.pq_read.specs.Reads.{IsRefusedFor};
+ghost use Rattle.pq_read.specs.declared.program.Options.{Options};
+ghost use Rattle.pq_read.specs.Environment.{view};
+ghost use Rattle.pq_read.specs.Reads.{Reads};
+ghost use Rattle.pq_text.specs.WellFormed.{WellFormed};
 ghost use Rattle.pq_top.specs.Outputs.{spaced, redex_line, local_line, IsCheckText};
 ghost use Rattle.pq_top.specs.Work.{status_by};
 
 use crate::answer::Output;
 use pq_io::{ByteList, OutOfMemory};
-use pq_limits::MAX_INPUT;
 use pq_match::{Redex, find_within};
-use pq_read::{Options, ReadError, read_text};
+use pq_read::Program;
 use pq_rules::Rules;
 use pq_write::push_number;
 use std::alloc::Global;
 
-/// Names the first redex of the program that a text stands for whose span is at most Omega, or says that
-/// there is none. Beside the program and the rules it takes memory for one line. Omega is 2 to 1,024.
+/// Names the first redex of a program whose span is at most Omega, or says that there is none. Beside the program and the rules it takes memory for one line. Omega is 2 to 1,024.
 #[tactic(auto, using(crate::proofs::Checking::names_redex))]
-pub fn checked(
-    alloc: Global,
-    text: ByteList,
-    options: Options,
-    omega: u32,
-) -> Result<Output, ReadError>
-    requires within { length text.items ≤ MAX_INPUT }
+pub fn checked(alloc: Global, program: Program, omega: u32) -> Result<Output, OutOfMemory>
+    requires formed { WellFormed (view program) }
     requires omega { IsOmega omega }
-    ensures found { IfOk result (λ output. IsCheckText omega options text.items (status_by output.found) output.text.items) }
-    ensures refused { IfErr result (IsRefusedFor text.items options) }
+    ensures { IfOk result (λ output. (options : Options) (text : List ℕ) → Reads text options (view program)
+        → IsCheckText omega options text (status_by output.found) output.text.items) }
 {
-    let program = read_text(alloc, text.as_slice(), options)?;
-    drop(text);
     let rules = Rules::builtin(alloc)?;
     match find_within(program.gates.as_slice(), &rules, omega) {
         Some(redex) => Ok(Output {

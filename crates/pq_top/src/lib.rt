@@ -14,6 +14,7 @@ ghost use Rattle.pq_top.specs.Log.{Follows, HasLogged};
 
 mod answer;
 mod check;
+mod feeding;
 mod laws;
 mod notes;
 mod optimise;

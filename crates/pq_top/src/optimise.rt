@@ -1,51 +1,49 @@
-ghost use Rattle.std.specs.Prelude.{◌≡◌, false, ◌+◌, ◌-◌, ◌*◌, ◌≤◌, length, IfOk, IfErr, OnOk};
+ghost use Rattle.std.specs.Prelude.{◌≡◌, ◌+◌, ◌-◌, ◌*◌, ◌≤◌, ℕ, List, length, IfOk, OnOk};
 ghost use Rattle.pq_limits.specs.Limits.{AreQubits, AreWorkers, IsOmega};
 ghost use Rattle.pq_loop.specs.Gaps.{first_fingers};
 ghost use Rattle.pq_loop.specs.Opt.{Local};
 ghost use Rattle.pq_loop.specs.Counted.{IsEndOf};
-ghost use Rattle.pq_read.specs.Reads.{IsRefusedFor};
+ghost use Rattle.pq_read.specs.declared.program.Options.{Options};
+ghost use Rattle.pq_read.specs.Environment.{view};
+ghost use Rattle.pq_read.specs.Reads.{Reads};
+ghost use Rattle.pq_text.specs.WellFormed.{WellFormed};
 ghost use Rattle.pq_rules.specs.Table.{builtin_rows};
 ghost use Rattle.pq_top.specs.Outputs.{KeepsMatrix, IsOptText, IsBenchText};
-ghost use Rattle.pq_top.specs.Log.{Follows, LogsRounds, LogsText, LogsError};
+ghost use Rattle.pq_top.specs.Log.{Follows, LogsRounds, LogsText};
 ghost use Rattle.pq_generate.specs.Generated.{generated};
 ghost use Rattle.pq_text.specs.Print.{print};
 
-use crate::answer::Output;
 use pq_gate::GateList;
 use pq_generate::generate;
 use pq_io::{ByteList, OutOfMemory};
-use pq_limits::{MAX_GATES, MAX_INPUT};
+use pq_limits::MAX_GATES;
 use pq_loop::{Finished, Loop, Receipt};
-use pq_read::{Options, Program, ReadError, read_text};
+use pq_read::Program;
 use pq_round::WorkGate;
 use pq_rules::Rules;
 use pq_write::{ReportNumbers, write_program, write_report, write_with_report};
 use std::alloc::Global;
 use std::thread::Threads;
 
-/// The canonical text of the program that a text stands for, with the gates that rounds leave of its own, and
-/// then the report. Omega is 2 to 1,024, and 1 to 64 workers make the rounds. The log takes the receipt of each round.
+/// The canonical text of a program with the gates that rounds leave of its own, and then the report. Omega is 2 to
+/// 1,024, and 1 to 64 workers make the rounds. The log takes the receipt of each round.
 #[tactic(auto, using(crate::proofs::Optimising::formed_with))]
 pub fn optimised<R: Threads + Sync, G: WorkGate>(
     rt: &R,
     alloc: Global,
-    text: ByteList,
-    options: Options,
+    program: Program,
     omega: u32,
     workers: u32,
     log: &mut Vec<Receipt>,
     gate: &G,
-) -> Result<Output, ReadError>
-    requires within { length text.items ≤ MAX_INPUT }
+) -> Result<ByteList, OutOfMemory>
+    requires formed { WellFormed (view program) }
     requires omega { IsOmega omega }
     requires workers { AreWorkers workers }
-    ensures found { IfOk result (λ output. IsOptText omega options text.items output.text.items × (output.found ≡ false)) }
-    ensures refused { IfErr result (IsRefusedFor text.items options) }
-    ensures log { OnOk result (LogsText omega options text.items log.old.items log.new.items) }
-    ensures log_at_error { IfErr result (LogsError log.old.items log.new.items) }
+    ensures text { IfOk result (λ written. (options : Options) (text : List ℕ) → Reads text options (view program) → IsOptText omega options text written.items) }
+    ensures log { OnOk result ((options : Options) (text : List ℕ) → Reads text options (view program) → LogsText omega options text log.old.items log.new.items) }
+    ensures log_keeps { Follows log.old.items log.new.items }
 {
-    let program = read_text(alloc, text.as_slice(), options)?;
-    drop(text);
     let gates_in = program.gates.as_slice().len() as u64;
     let finished = run_rounds(rt, alloc, program.gates, omega, workers, log, gate)?;
     let report = report_on(gates_in, &finished);
@@ -54,7 +52,7 @@ pub fn optimised<R: Threads + Sync, G: WorkGate>(
         ..program
     };
     let text = write_with_report(alloc, &program, &report)?;
-    Ok(Output { text, found: false })
+    Ok(text)
 }
 
 /// The report on what rounds left of so many gates.

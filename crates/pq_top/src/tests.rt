@@ -528,6 +528,12 @@ fn failing_devices_are_counted(rt: HostRuntime) -> Result<(), Fail> {
     };
     let outcome = run(&rt, &["opt", "--omega", "2"], TWO_H, failing, WHOLE)?;
     expect(&rt, &outcome, 4, "", "popqc: read fault after 0 bytes\n");
+    let failing = Device {
+        step: 1,
+        fails: Some(1),
+    };
+    let outcome = run(&rt, &["check", "--omega", "2"], "@", failing, WHOLE)?;
+    expect(&rt, &outcome, 4, "", "popqc: read fault after 1 bytes\n");
     Ok(())
 }
 
