@@ -259,14 +259,7 @@ fn a_long_replacement_finds_its_place(rt: HostRuntime) -> Result<(), Fail> {
         h_on(5),
         cx_on(2, 0),
     ];
-    let left = [
-        h_on(5),
-        cx_on(0, 1),
-        h_on(2),
-        h_on(1),
-        z_on(0),
-        z_on(2),
-    ];
+    let left = [h_on(5), cx_on(0, 1), h_on(2), h_on(1), z_on(0), z_on(2)];
     leaves_under(&rt, &rules, &given, &left)?;
     Ok(())
 }
