@@ -8,3 +8,4 @@ pub mod Replacing
 pub mod Lowering
 pub mod TreeLaws
 pub mod Compacting
+pub mod Backwards

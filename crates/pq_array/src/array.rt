@@ -12,6 +12,9 @@ use pq_list::{OutOfMemory, crosses_threads};
 use std::alloc::Global;
 use std::marker::Model;
 
+/// How many cells are looked at one after another for the next live one, before the tree is asked.
+const NEAR: u64 = 256;
+
 /// Cells that each hold a gate, or are a tombstone where a gate was taken out. Contracts see the list
 /// of cells, and its live gates: those that are left, in order of place. A place is the number of a
 /// cell, counted from 0; the number of cells stands for the end. Only `open` takes memory.
@@ -131,11 +134,47 @@ impl GateArray {
         ensures least { IfSome result (λ next. (later : ℕ) →
             place ≤ later → IsLive self.now later → next ≤ later) }
     {
+        let near = self.cells().min(place.saturating_add(NEAR));
+        for next in place..near {
+            if self.gate_at(next).is_some() {
+                return Some(next);
+            }
+        }
+        self.next_by_rank(place)
+    }
+
+    /// The same, by the ways from and to the root.
+    fn next_by_rank(&self, place: u64) -> Option<u64>
+        ensures none { IsNone result ↔ ((later : ℕ) → place ≤ later → IsLive self.now later → ⊥) }
+        ensures live { IfSome result (IsLive self.now) }
+        ensures after { IfSome result (λ next. place ≤ next) }
+        ensures least { IfSome result (λ next. (later : ℕ) →
+            place ≤ later → IsLive self.now later → next ≤ later) }
+    {
         if place < self.cells() {
             self.select(self.rank(place))
         } else {
             None
         }
+    }
+
+    /// The place before this one with so many live gates fewer before it: that of a live gate, or this place where none is
+    /// to be passed. It looks at one cell after another.
+    #[tactic(auto, using(crate::proofs::Backwards::back_none, crate::proofs::Backwards::back_some, crate::proofs::Backwards::back_more))]
+    pub fn back(&self, place: u64, count: u64) -> u64
+        requires inside { place ≤ length self.now }
+        requires enough { count ≤ rank self.now place }
+        ensures rank { rank self.now result + count ≡ rank self.now place }
+        ensures before { result ≤ place }
+        ensures live { 1 ≤ count → IsLive self.now result }
+    {
+        let mut at = place;
+        let mut left = count;
+        'cells: while left > 0 {
+            at -= 1;
+            left -= u64::from(self.gate_at(at).is_some());
+        }
+        at
     }
 
     /// Puts the output at the first of these places, in order, and tombstones at the others. The places

@@ -90,6 +90,8 @@ fn three_of_five_gates_are_replaced_by_one(rt: HostRuntime) -> Result<(), Fail> 
     assert_eq!(rt; array.select(3), None);
     assert_eq!(rt; array.next_live(2), Some(4));
     assert_eq!(rt; array.next_live(5), None);
+    assert_eq!(rt; array.back(4, 1), 1);
+    assert_eq!(rt; array.back(5, 3), 0);
 
     array.compact();
     assert_eq!(rt; array.cells(), 3);

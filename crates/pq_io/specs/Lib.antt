@@ -1,5 +1,6 @@
 pub mod Faults
 pub mod Memory
+pub mod Sure
 pub mod Adapted
 pub mod Whole
 pub mod Settled

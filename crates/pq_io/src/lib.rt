@@ -7,6 +7,7 @@ mod filling;
 mod laws;
 mod memory;
 mod stream;
+mod sure;
 mod whole;
 
 pub use adapted::{ReadSource, WriteSink};
@@ -14,6 +15,7 @@ pub use laws::{reading_is_settled, writing_is_settled};
 pub use memory::{MemSink, MemSource};
 pub use pq_list::{OutOfMemory, PlaceList, RoomList};
 pub use stream::{Failed, Sink, Source};
+pub use sure::{SureSink, SureSource};
 pub use whole::{ReadWhole, WriteFault, read_whole, write_whole};
 
 /// A list of bytes.

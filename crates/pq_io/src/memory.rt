@@ -88,7 +88,7 @@ impl Source for MemSource {
 }
 
 // Copies as many bytes as both have, but at most `step`, and returns how many.
-fn copy_front(from: &[u8], into: &mut [u8], step: u32) -> usize
+pub(crate) fn copy_front(from: &[u8], into: &mut [u8], step: u32) -> usize
     ensures count { result ≡ min step (min (length into.old) (length from.now)) }
     ensures copied { into.new ≡ take result from.now ++ drop result into.old }
 {

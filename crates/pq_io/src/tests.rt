@@ -1,8 +1,8 @@
 ghost use Rattle.std.specs.Prelude.{◌<◌};
 
 use crate::{
-    ByteList, Failed, MemSink, MemSource, PlaceList, ReadSource, ReadWhole, Sink, Source,
-    WriteSink, read_whole, write_whole,
+    ByteList, Failed, MemSink, MemSource, PlaceList, ReadSource, ReadWhole, Sink, Source, SureSink,
+    SureSource, WriteSink, read_whole, write_whole,
 };
 use std::alloc::{AllocError, Global};
 use std::io;
@@ -335,5 +335,21 @@ fn a_call_says_how_many_bytes_it_moved(rt: HostRuntime) -> Result<(), Fail> {
     assert_eq!(rt; sink.put(b"3"), Ok(1));
     assert_eq!(rt; sink.put(b"4"), Err(Failed));
     assert_eq!(rt; sink.faults(), 2);
+    Ok(())
+}
+
+#[test]
+fn what_never_fails_gives_all_and_keeps_the_first_bytes(rt: HostRuntime) -> Result<(), Fail> {
+    let mut source = SureSource::new(bytes_of(rt.alloc(), b"12345")?, 2);
+    let answer = read_whole(rt.alloc(), &mut source, 5);
+    assert_eq!(rt;
+        words(rt.alloc(), &answer)?.as_str(),
+        "bytes [49, 50, 51, 52, 53]"
+    );
+    let sink = SureSink::new(rt.alloc(), 16, 64)?;
+    assert!(rt; sink.held().is_empty());
+    let mut sink = SureSink::new(rt.alloc(), 2, 3)?;
+    assert_eq!(rt; write_whole(&mut sink, b"12345"), Ok(()));
+    assert_eq!(rt; sink.held(), b"123".as_slice());
     Ok(())
 }

@@ -7,3 +7,4 @@ pub mod Changing
 pub mod Linking
 pub mod Filling
 pub mod Spreading
+pub mod Gaps

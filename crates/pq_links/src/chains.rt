@@ -8,7 +8,6 @@ ghost use Rattle.pq_links.specs.Slots.{free_slot, spread, AreSlots, AreNext, Are
 ghost use Rattle.pq_links.specs.Leading.{doubled, AreLed, AreSpread, LeadNowhere};
 
 use crate::links::{FAR, Links, NO_WIRE, Sides, lead, next_on};
-use crate::wires::wires_of;
 use pq_gate::Gate;
 use pq_list::OutOfMemory;
 use std::alloc::Global;
@@ -205,9 +204,20 @@ fn lead_both(slots: &[Gate], sides: &mut [Sides], gate: Gate, at: Sides, to: Sid
     requires { length sides.old ≡ length slots.now }
     ensures { AreLed slots.now gate at to sides.old sides.new }
 {
-    let (first, last) = wires_of(gate);
-    lead(slots, sides, at.first as u32, first, to.first as u32);
-    lead(slots, sides, at.second as u32, last, to.second as u32);
+    lead(
+        slots,
+        sides,
+        at.first as u32,
+        gate.first_wire(),
+        to.first as u32,
+    );
+    lead(
+        slots,
+        sides,
+        at.second as u32,
+        gate.last_wire(),
+        to.second as u32,
+    );
 }
 
 // frees the slot, and links what stands before and behind it on the wires of its gate

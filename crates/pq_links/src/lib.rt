@@ -3,8 +3,6 @@
 
 mod chains;
 mod links;
-mod wires;
 
 pub use chains::{Chains, Gap};
 pub use links::{FAR, Links, NO_WIRE, Sides, next_on};
-pub use wires::wires_of;

@@ -5,7 +5,6 @@ ghost use Rattle.pq_links.specs.Places.{gate_at};
 ghost use Rattle.pq_links.specs.Links.{side_at, IsNextOn, IsLastIn, IsLastOn, AreLinked, AreBefore, AreHeads};
 ghost use Rattle.pq_links.specs.Slots.{AreNext};
 
-use crate::wires::wires_of;
 use pq_gate::Gate;
 use pq_list::OutOfMemory;
 use std::alloc::Global;
@@ -84,7 +83,8 @@ impl Links {
         ensures room { self.new.room ≡ self.old.room }
     {
         let place = gates.len() as u32;
-        let (first, second) = wires_of(gate);
+        let first = gate.first_wire();
+        let second = gate.last_wire();
         let before = self.before.as_slice();
         let heads = self.heads.as_slice();
         let last_first = last_on(gates, before, heads, first);
@@ -190,7 +190,8 @@ fn last_on(gates: &[Gate], before: &[Sides], heads: &[u16], wire: u32) -> u32
     let bucket = wire % buckets;
     let mut place = heads[bucket as usize] as u32;
     'back: while (place as usize) < gates.len() {
-        let (first, second) = wires_of(gates[place as usize]);
+        let first = gates[place as usize].first_wire();
+        let second = gates[place as usize].last_wire();
         if first == wire || second == wire {
             return place;
         }
@@ -212,7 +213,8 @@ pub(crate) fn lead(gates: &[Gate], next: &mut [Sides], last: u32, wire: u32, pla
     ensures others { (p : ℕ) (one : Bool) → (p ≡ last → wire_of one (gate_at gates.now p) ≡ wire → ⊥) → side_at one next.new p ≡ side_at one next.old p }
 {
     if (last as usize) < gates.len() {
-        let (first, second) = wires_of(gates[last as usize]);
+        let first = gates[last as usize].first_wire();
+        let second = gates[last as usize].last_wire();
         let sides = next[last as usize];
         let to = place as u16;
         next[last as usize] = Sides {

@@ -33,7 +33,7 @@ use Rattle.pq_method.proofs.Ending.{first_covers, local_without_fingers}
 -- a round keeps it
 pub kept_after : {old new : List (Option Gate)} {fingers moved : List ℕ} {rules : List RowView} {w rounds calls phase : ℕ} {step : Step} →
     IsKept old fingers rules w rounds calls phase → 0 < length (map (rank old) fingers) →
-    Round rules w (state_of old fingers) (state_of new moved) step → All (λ place. IsTrue (stands new place)) moved → length new ≡ length old →
+    Round rules w (state_of old fingers) (state_of new moved) step → All (λ place. IsTrue (stands new place)) moved → length new ≤ length old →
     IsKept new moved rules w (rounds + 1) (calls + step.selected) ((phase + step.phase) % 8)
 kept_after {old} {new} {fingers} {moved} {rules} {w} {rounds} {calls} {phase} {step} kept some is stand size =
     let before : State = state_of old fingers in
@@ -55,7 +55,7 @@ kept_after {old} {new} {fingers} {moved} {rules} {w} {rounds} {calls} {phase} {s
     }
 
 -- each cell of some gates has its number as rank
-rank_number : (gates : List Gate) (place : ℕ) → place ≤ length gates → rank (map (λ gate. Some gate) gates) place ≡ place
+pub rank_number : (gates : List Gate) (place : ℕ) → place ≤ length gates → rank (map (λ gate. Some gate) gates) place ≡ place
 rank_number gates zero le = refl
 rank_number [] (suc place) le = absurd (omega arith)
 rank_number (gate ∷ gates) (suc place) le = ap suc (rank_number gates place (omega arith))
@@ -66,7 +66,7 @@ number_live [] place lt = absurd (omega arith)
 number_live (gate ∷ gates) zero lt = refl
 number_live (gate ∷ gates) (suc place) lt = number_live gates place (omega arith)
 
-number_stands : (gates : List Gate) (place : ℕ) → place ≤ length gates → IsTrue (stands (map (λ gate. Some gate) gates) place)
+pub number_stands : (gates : List Gate) (place : ℕ) → place ≤ length gates → IsTrue (stands (map (λ gate. Some gate) gates) place)
 number_stands gates place le = by (cases_lt place (length gates))
   where
     cells : List (Option Gate)
@@ -76,7 +76,7 @@ number_stands gates place le = by (cases_lt place (length gates))
     by (inl before) = live_stands cells place (number_live gates place before)
     by (inr last) = end_stands cells place (omega (arith, length-map gates (λ gate. Some gate)))
 
-same_ranks : (gates : List Gate) (places : List ℕ) → All (λ place. place ≤ length gates) places → map (rank (map (λ gate. Some gate) gates)) places ≡ places
+pub same_ranks : (gates : List Gate) (places : List ℕ) → All (λ place. place ≤ length gates) places → map (rank (map (λ gate. Some gate) gates)) places ≡ places
 same_ranks gates [] inside = refl
 same_ranks gates (place ∷ places) inside =
     let first : rank (map (λ gate. Some gate) gates) place ≡ place = rank_number gates place (All-head (λ p. p ≤ length gates) place places inside) in
@@ -141,6 +141,7 @@ local_at_end {cells} {fingers} {rules} {w} kept none a b up in_list most redex i
 abbrev pub view_of : List (Option Gate) → List ℕ → List RowView → ℕ → ℕ → ℕ → ℕ → ℕ → LoopView
 view_of cells fingers rules w rounds calls phase first = record {
   state = state_of cells fingers;
+  cells = length cells;
   omega = w;
   rules = rules;
   rounds = rounds;
@@ -185,7 +186,7 @@ after_of_view {old} {fingers} {rules} {w} {rounds} {calls} {phase} {first} {loop
 -- what a round makes of what a loop keeps
 pub kept_of_view : {old new : List (Option Gate)} {fingers moved : List ℕ} {rules : List RowView} {w rounds calls phase first : ℕ} {loop : LoopView} {step : Step} →
     IsKept old fingers rules w rounds calls phase → view_of old fingers rules w rounds calls phase first ≡ loop → 0 < length loop.state.fingers →
-    Round rules w (state_of old fingers) (state_of new moved) step → All (λ place. IsTrue (stands new place)) moved → length new ≡ length old →
+    Round rules w (state_of old fingers) (state_of new moved) step → All (λ place. IsTrue (stands new place)) moved → length new ≤ length old →
     IsKept new moved rules w (rounds + 1) (calls + step.selected) ((phase + step.phase) % 8)
 kept_of_view kept seen some is stand size =
     kept_after kept (omega (arith, ap (λ (v : LoopView). length v.state.fingers) seen, some)) is stand size

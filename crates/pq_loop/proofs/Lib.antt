@@ -16,3 +16,5 @@ pub mod Numbering
 pub mod Moving
 pub mod Collecting
 pub mod Rejoining
+pub mod Compacting
+pub mod Ends

@@ -6,10 +6,10 @@ ghost use Rattle.pq_gaps.specs.Gaps.{first_fingers};
 ghost use Rattle.pq_limits.specs.Limits.{AreWorkers, IsOmega};
 ghost use Rattle.pq_method.specs.Round.{Round};
 ghost use Rattle.pq_method.specs.Opt.{first_state, numbers_of, Local};
-ghost use Rattle.pq_loop.specs.Loops.{IsCovered};
+ghost use Rattle.pq_loop.specs.Loops.{IsCovered, cells_left};
 ghost use Rattle.pq_loop.specs.Receipts.{receipt_of};
 
-use crate::one_round::work_round;
+use crate::one_round::make_round;
 #[cfg(test)]
 use crate::segments::gaps_of;
 use pq_array::GateArray;
@@ -26,7 +26,7 @@ use std::marker::Model;
 use std::thread::Threads;
 
 /// Rounds over the gates of a circuit. Contracts see the state, which is the gates that are left and the
-/// fingers as gaps; the window length Omega and the rules; and the rounds, the oracle's calls and the phase
+/// fingers as gaps; the number of cells; the window length Omega and the rules; and the rounds, the oracle's calls and the phase
 /// so far. The type keeps that nothing is overlooked: each run of at most Omega gates that has a redex lies
 /// in the segment of a finger.
 #[derive(Drop)]
@@ -44,6 +44,7 @@ pub struct Loop {
 }
 
 impl Model for Loop {
+    ghost use Rattle.std.specs.Prelude.{length};
     ghost use Rattle.pq_loop.specs.Loops.{LoopView};
 
     ghost Value = { LoopView };
@@ -51,7 +52,7 @@ impl Model for Loop {
     ghost use Rattle.pq_loop.specs.Segments.{state_of};
     ghost use Rattle.pq_loop.specs.Loops.{IsKept};
 
-    ghost view = { λ a. record { state = state_of a.array a.fingers; omega = a.omega; rules = a.rules; rounds = a.rounds; calls = a.calls; phase = a.phase; first_fingers = a.first_fingers } };
+    ghost view = { λ a. record { state = state_of a.array a.fingers; cells = length a.array; omega = a.omega; rules = a.rules; rounds = a.rounds; calls = a.calls; phase = a.phase; first_fingers = a.first_fingers } };
 
     ghost invariant = { λ a. IsKept a.array a.fingers a.rules a.omega a.rounds a.calls a.phase };
 }
@@ -88,6 +89,7 @@ impl Loop {
         requires omega { IsOmega omega }
         requires few { length gates.now ≤ MAX_GATES }
         ensures state { IfOk result (λ made. made.state ≡ first_state omega gates.now) }
+        ensures cells { IfOk result (λ made. made.cells ≡ length gates.now) }
         ensures omega { IfOk result (λ made. made.omega ≡ omega) }
         ensures rules { IfOk result (λ made. made.rules ≡ rules) }
         ensures counts { IfOk result (λ made. (made.rounds ≡ 0) × (made.calls ≡ 0) × (made.phase ≡ 0)) }
@@ -125,8 +127,16 @@ impl Loop {
         self.fingers.places().len() as u64
     }
 
+    /// How many cells the gates stand in: as many as gates at the opening.
+    pub fn cells(&self) -> u64
+        ensures { result ≡ self.now.cells }
+    {
+        self.array.cells()
+    }
+
     /// One round, while there is a finger: the segments of the selected fingers are given to the oracle, its answers
-    /// are put in their places, and the fingers are settled and moved. So many workers, 1 to 64, give them to the oracle,
+    /// are put in their places, and the fingers are settled and moved. Where twice the gates are then fewer than the cells,
+    /// the gates get as many cells as they are; else the cells stay. So many workers, 1 to 64, give them to the oracle,
     /// as `run_round` of `pq_round` says; the gate is called before and after each. The receipt is that of the round's
     /// board. Where memory is refused, the loop is spent.
     pub fn round<R: Threads + Sync, G: WorkGate>(
@@ -139,6 +149,7 @@ impl Loop {
         requires going { 0 < length self.state.fingers }
         requires workers { AreWorkers workers }
         ensures round { IfOk result (λ made. Round self.rules self.omega self.state made.0.state made.1) }
+        ensures cells { IfOk result (λ made. made.0.cells ≡ cells_left self.cells (length made.0.state.gates)) }
         ensures settings { IfOk result (λ made. (made.0.omega ≡ self.omega) × (made.0.rules ≡ self.rules) × (made.0.first_fingers ≡ self.first_fingers)) }
         ensures rounds { IfOk result (λ made. made.0.rounds ≡ self.rounds + 1) }
         ensures calls { IfOk result (λ made. made.0.calls ≡ self.calls + made.1.selected) }
@@ -160,7 +171,7 @@ impl Loop {
             phase,
             first_fingers,
         } = self;
-        let (array, fingers, step, receipt) = work_round(
+        let (array, fingers, step, receipt) = make_round(
             rt, alloc, array, &fingers, &rules, omega, workers, gate,
         )?;
         let after = Loop {

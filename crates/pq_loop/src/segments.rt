@@ -53,7 +53,14 @@ pub fn segments_of(
     let all = gaps_of(alloc, array, fingers)?;
     let selected = fingers.select(alloc, all.as_slice(), omega)?;
     let gaps = picked(alloc, all.as_slice(), selected.as_slice())?;
-    let jobs = jobs_of(alloc, array, gaps.as_slice(), omega)?;
+    let jobs = jobs_of(
+        alloc,
+        array,
+        gaps.as_slice(),
+        fingers.places(),
+        selected.as_slice(),
+        omega,
+    )?;
     Ok(Segments {
         omega,
         fingers: selected,
@@ -90,20 +97,33 @@ fn picked(alloc: Global, gaps: &[u64], indexes: &[u64]) -> Result<Vec<u64>, OutO
         .collect(alloc)
 }
 
-/// For each gap the places of the gates of its segment.
-fn jobs_of(alloc: Global, array: &GateArray, gaps: &[u64], omega: u32) -> Result<Jobs, OutOfMemory>
+/// For each gap the places of the gates of its segment. The gaps are those of the fingers with these indexes, of all that
+/// stand at these places.
+fn jobs_of(
+    alloc: Global,
+    array: &GateArray,
+    gaps: &[u64],
+    places: &[u64],
+    indexes: &[u64],
+    omega: u32,
+) -> Result<Jobs, OutOfMemory>
     requires omega { IsOmega omega }
     requires few { length array.now ≤ MAX_GATES }
     requires apart { AllPairs (λ gap later. gap + 2 * omega ≤ later) gaps.now }
     requires inside { All (λ gap. gap ≤ length (live array.now)) gaps.now }
+    requires places { All (λ place. place ≤ length array.now) places.now }
+    requires in_range { All (λ index. index < length places.now) indexes.now }
+    requires ranks { map (λ index. rank array.now (slice_index places.now index)) indexes.now ≡ gaps.now }
     ensures { IfOk result (λ jobs. AreJobs array.now omega gaps.now jobs) }
 {
     let mut jobs = Jobs::new(alloc);
-    let mut places = Vec::with_capacity(alloc, 2 * omega as usize)?;
+    let mut list = Vec::with_capacity(alloc, 2 * omega as usize)?;
     for gap in gaps {
         let (from, to) = segment(*gap, array.live(), omega);
-        put_places(&mut places, array, from, to);
-        jobs.add(places.as_slice())?;
+        let index = indexes[jobs.count() as usize];
+        let start = array.back(places[index as usize], *gap - from);
+        put_places(&mut list, array, start, from, to);
+        jobs.add(list.as_slice())?;
     }
     Ok(jobs)
 }
@@ -119,8 +139,10 @@ fn segment(gap: u64, live: u64, omega: u32) -> (u64, u64)
     (gap.saturating_sub(reach), live.min(gap + reach))
 }
 
-/// Makes the list that of the places of the live gates from one gap to another.
-fn put_places(list: &mut Vec<u64>, array: &GateArray, from: u64, to: u64)
+/// Makes the list that of the places of the live gates from one gap to another. The first gap is that of the start.
+fn put_places(list: &mut Vec<u64>, array: &GateArray, start: u64, from: u64, to: u64)
+    requires start { rank array.now start ≡ from }
+    requires start_inside { start ≤ length array.now }
     requires up { from ≤ to }
     requires inside { to ≤ length (live array.now) }
     requires room { to ≤ from + vec_capacity list.old }
@@ -130,22 +152,12 @@ fn put_places(list: &mut Vec<u64>, array: &GateArray, from: u64, to: u64)
     ensures capacity { vec_capacity list.new ≡ vec_capacity list.old }
 {
     list.clear();
-    let mut place = place_of(array, from);
+    let mut place = start;
     for _number in from..to {
         place = live_from(array, place);
         list.push_reserved(place);
         place += 1;
     }
-}
-
-/// The place of a gap: that of the live gate of this number, or the end.
-fn place_of(array: &GateArray, gap: u64) -> u64
-    requires { gap ≤ length (live array.now) }
-    ensures stands { IsTrue (stands array.now result) }
-    ensures rank { rank array.now result ≡ gap }
-    ensures inside { result ≤ length array.now }
-{
-    array.select(gap).unwrap_or(array.cells())
 }
 
 /// The least live place from this one on.
@@ -161,10 +173,54 @@ fn live_from(array: &GateArray, place: u64) -> u64
     array.next_live(place).unwrap()
 }
 
-/// Where the segment of a finger of this index and gap begins and ends, as if it weren't improved.
-fn cut_at(array: &GateArray, finger: u64, gap: u64, omega: u32) -> Cut
+/// The least live place from this one on, or the end.
+#[tactic(auto, using(crate::proofs::Moving::next_stands))]
+pub fn live_or_end(array: &GateArray, place: u64) -> u64
+    ensures stands { IsTrue (stands array.now result) }
+    ensures rank { rank array.now result ≡ rank array.now place }
+{
+    array.next_live(place).unwrap_or(array.cells())
+}
+
+/// The place of the gap where a segment begins: that of the first of its places, which go from one gap to another.
+#[tactic(auto, using(crate::proofs::Ends::begins_stands, crate::proofs::Ends::begins_rank))]
+fn begin_of(array: &GateArray, places: &[u64], from: u64, to: u64) -> u64
+    requires run { AreOfRun array.now from to places.now }
+    requires empty { to ≤ from → from ≡ length (live array.now) }
+    ensures stands { IsTrue (stands array.now result) }
+    ensures rank { rank array.now result ≡ from }
+{
+    if places.is_empty() {
+        array.cells()
+    } else {
+        places[0]
+    }
+}
+
+/// The place of the gap where it ends: the next live place behind the last of its places, or the end.
+#[tactic(auto, using(crate::proofs::Ends::ends_inside, crate::proofs::Ends::ends_rank))]
+fn end_of(array: &GateArray, places: &[u64], from: u64, to: u64) -> u64
+    requires run { AreOfRun array.now from to places.now }
+    requires up { from ≤ to }
+    requires empty { to ≤ from → to ≡ length (live array.now) }
+    requires few { length array.now ≤ MAX_GATES }
+    ensures stands { IsTrue (stands array.now result) }
+    ensures rank { rank array.now result ≡ to }
+{
+    if places.is_empty() {
+        array.cells()
+    } else {
+        live_or_end(array, places[places.len() - 1] + 1)
+    }
+}
+
+/// Where the segment of a finger of this index and gap begins and ends, as if it weren't improved. Its gates are at these
+/// places.
+fn cut_at(array: &GateArray, finger: u64, gap: u64, omega: u32, places: &[u64]) -> Cut
+    requires omega { IsOmega omega }
     requires gap { gap ≤ length (live array.now) }
     requires few { length array.now ≤ MAX_GATES }
+    requires run { AreOfRun array.now (segment_from omega gap) (segment_to omega (length (live array.now)) gap) places.now }
     ensures { (improved : Bool) (places : List ℕ) (gaps : GapCut) → IsCutHere (length (live array.now)) omega gap improved gaps →
         finger < length places → rank array.now (slice_index places finger) ≡ gap →
         IsAtPlaces (rank array.now) (stands array.now) (length (live array.now)) places gaps (flagged improved result) }
@@ -174,8 +230,8 @@ fn cut_at(array: &GateArray, finger: u64, gap: u64, omega: u32) -> Cut
     Cut {
         finger,
         improved: false,
-        from: place_of(array, from),
-        to: place_of(array, to),
+        from: begin_of(array, places, from, to),
+        to: end_of(array, places, from, to),
         at_start: from == 0,
         at_end: to == live,
     }
@@ -185,6 +241,7 @@ impl Segments {
     /// Where each segment begins and ends, told at places. The array is the one before the round. With the words of the
     /// round's results these are what the round did at each.
     pub fn ends(&self, alloc: Global, array: &GateArray) -> Result<Vec<Cut>, OutOfMemory>
+        requires omega { IsOmega self.now.omega }
         requires segments { AreSegments array.now self.now }
         requires fingers { length self.now.fingers.items ≡ length self.now.gaps.items }
         requires few { length array.now ≤ MAX_GATES }
@@ -197,7 +254,8 @@ impl Segments {
         let mut ends = Vec::with_capacity(alloc, self.gaps.len())?;
         for number in 0..self.gaps.len() {
             let finger = self.fingers.as_slice()[number];
-            ends.push_reserved(cut_at(array, finger, self.gaps[number], self.omega));
+            let places = self.jobs.places(number as u64);
+            ends.push_reserved(cut_at(array, finger, self.gaps[number], self.omega, places));
         }
         Ok(ends)
     }

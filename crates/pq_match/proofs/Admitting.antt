@@ -16,6 +16,7 @@ use Rattle.pq_links.proofs.Touching.{touched, touching}
 use Rattle.pq_match.specs.Redex.{gate_at}
 use Rattle.pq_match.specs.Search.{AreAlike, IsPassed, IsFull}
 use Rattle.pq_match.specs.Seek.{IsClear, IsSeenAt}
+use Rattle.pq_match.specs.Within.{IsNextWithin, IsSeenWithin}
 use Rattle.pq_match.proofs.Roles.{commuting_agree, circuit_clear, same_first_role, same_last_role, role_on_last, used_touches, touched_used, tests_alike, both_true, or_first, or_second}
 use Rattle.pq_match.proofs.SearchGates.{gate_on_wires}
 
@@ -54,7 +55,7 @@ leads_at wire (g ∷ gs) next rest is = by (uses wire g) refl (leads_at wire gs 
         leads_later wire g gs next rest unused (later (sym (ap (λ (b : Bool). cond b (role_on wire g ∷ roles_on wire gs) (roles_on wire gs)) unused) ∙ is))
 
 -- what a full match has on the last wire of its first gate
-module _ (n : ℕ) (gates : List Gate) (p0 : Gate) (gs : List Gate) (places : List ℕ) (on : IsCircuit n (p0 ∷ gs)) (full : IsFull gates (p0 ∷ gs) (length gates) places) where
+module _ (n : ℕ) (gates : List Gate) (p0 : Gate) (gs : List Gate) (end : ℕ) (places : List ℕ) (on : IsCircuit n (p0 ∷ gs)) (full : IsFull gates (p0 ∷ gs) end places) where
   alike : (t : ℕ) → t < length (p0 ∷ gs) → AreAlike p0 (gate_at (p0 ∷ gs) t) (gate_at gates (get_or places 0 0)) (gate_at gates (get_or places t 0))
   alike t below = (full.fitting t below).wires 0 (omega arith)
 
@@ -90,7 +91,7 @@ module _ (n : ℕ) (gates : List Gate) (p0 : Gate) (gs : List Gate) (places : Li
 
   -- the next gate on the wire isn't behind a chosen one
   next_upto : (n from t : ℕ) → t < length (p0 ∷ gs) → uses (last_wire p0) (gate_at (p0 ∷ gs) t) ≡ true →
-      IsNextOn gates (last_wire (gate_at gates (get_or places 0 0))) from n → from ≤ get_or places t 0 → n ≤ get_or places t 0
+      IsNextWithin gates (last_wire (gate_at gates (get_or places 0 0))) end from n → from ≤ get_or places t 0 → n ≤ get_or places t 0
   next_upto n from t below used next upto = by (cases_order n (get_or places t 0))
     where
       by : (n ≡ get_or places t 0) ⊎ ((n < get_or places t 0) ⊎ (get_or places t 0 < n)) → n ≤ get_or places t 0
@@ -108,10 +109,10 @@ module _ (n : ℕ) (gates : List Gate) (p0 : Gate) (gs : List Gate) (places : Li
       by false unused = untouched_at t below unused (subst (λ (p : ℕ). Touches (gate_at gates p) (last_wire (gate_at gates (get_or places 0 0)))) (sym same) touches)
 
   -- so it may be passed over by the chosen ones before it
-  may_move : (n a t : ℕ) (what : Seen) → a < length (p0 ∷ gs) → t < length (p0 ∷ gs) → n < length gates → get_or places a 0 < n → n < get_or places t 0 →
+  may_move : (n a t : ℕ) (what : Seen) → a < length (p0 ∷ gs) → t < length (p0 ∷ gs) → n < end → get_or places a 0 < n → n < get_or places t 0 →
       Touches (gate_at gates n) (last_wire (gate_at gates (get_or places 0 0))) → uses (last_wire p0) (gate_at (p0 ∷ gs) a) ≡ true → IsPassed places (length (p0 ∷ gs)) n →
-      IsSeenAt gates (last_wire (gate_at gates (get_or places 0 0))) n what → may_pass what (role_on (last_wire p0) (gate_at (p0 ∷ gs) a)) ≡ true
-  may_move n a t seen.Nothing a_below t_below inside more less touches used passed is = (let past : length gates ≤ n = is in absurd (omega arith))
+      IsSeenWithin gates (last_wire (gate_at gates (get_or places 0 0))) end n what → may_pass what (role_on (last_wire p0) (gate_at (p0 ∷ gs) a)) ≡ true
+  may_move n a t seen.Nothing a_below t_below inside more less touches used passed is = (let past : end ≤ n = is in absurd (omega arith))
   may_move n a t seen.Unclear a_below t_below inside more less touches used passed is = refl
   may_move n a t (seen.Plays own) a_below t_below inside more less touches used passed is =
       ap (λ (r : Role). agree (role_on (last_wire p0) (gate_at (p0 ∷ gs) a)) r) is.0
@@ -119,18 +120,18 @@ module _ (n : ℕ) (gates : List Gate) (p0 : Gate) (gs : List Gate) (places : Li
       ∙ commuting_agree (gate_at gates (get_or places a 0)) (gate_at gates n) (last_wire (gate_at gates (get_or places 0 0))) (clear_at a a_below) is.1
       (full.clear t t_below a n a_below passed more less) (touched_at a a_below used) touches)
 
-  may_stand : (n t : ℕ) (what : Seen) → t < length (p0 ∷ gs) → n ≡ get_or places t 0 → IsSeenAt gates (last_wire (gate_at gates (get_or places 0 0))) n what →
+  may_stand : (n t : ℕ) (what : Seen) → t < length (p0 ∷ gs) → n ≡ get_or places t 0 → IsSeenWithin gates (last_wire (gate_at gates (get_or places 0 0))) end n what →
       may_be what (role_on (last_wire p0) (gate_at (p0 ∷ gs) t)) ≡ true
-  may_stand n t seen.Nothing below same is = (let past : length gates ≤ n = is in let inside : get_or places t 0 < length gates = full.inside t below in absurd (omega arith))
+  may_stand n t seen.Nothing below same is = (let past : end ≤ n = is in let inside : get_or places t 0 < end = full.inside t below in absurd (omega arith))
   may_stand n t seen.Unclear below same is = refl
   may_stand n t (seen.Plays own) below same is =
       eq-eqb (role_number own) (role_number (role_on (last_wire p0) (gate_at (p0 ∷ gs) t)))
       (ap role_number (is.0 ∙ (ap (λ (p : ℕ). role_on (last_wire (gate_at gates (get_or places 0 0))) (gate_at gates p)) same ∙ same_role_at t below)))
 
   -- the roles of the pattern's gates on the wire admit what is seen there
-  module _ (n1 n2 : ℕ) (near far : Seen) (first_next : IsNextOn gates (last_wire (gate_at gates (get_or places 0 0))) (get_or places 0 0 + 1) n1)
-      (then_next : n1 < length gates → IsNextOn gates (last_wire (gate_at gates (get_or places 0 0))) (n1 + 1) n2)
-      (near_is : IsSeenAt gates (last_wire (gate_at gates (get_or places 0 0))) n1 near) (far_is : IsSeenAt gates (last_wire (gate_at gates (get_or places 0 0))) n2 far) where
+  module _ (n1 n2 : ℕ) (near far : Seen) (first_next : IsNextWithin gates (last_wire (gate_at gates (get_or places 0 0))) end (get_or places 0 0 + 1) n1)
+      (then_next : n1 < end → IsNextWithin gates (last_wire (gate_at gates (get_or places 0 0))) end (n1 + 1) n2)
+      (near_is : IsSeenWithin gates (last_wire (gate_at gates (get_or places 0 0))) end n1 near) (far_is : IsSeenWithin gates (last_wire (gate_at gates (get_or places 0 0))) end n2 far) where
     own : role_on (last_wire p0) p0 ≡ last_role p0
     own = role_on_last p0 (clear_of 0 (omega arith))
 
@@ -158,11 +159,11 @@ module _ (n : ℕ) (gates : List Gate) (p0 : Gate) (gs : List Gate) (places : Li
       n1_upto : n1 ≤ get_or places t 0
       n1_upto = next_upto n1 (get_or places 0 0 + 1) t t_below t_used first_next (let r : get_or places 0 0 < get_or places t 0 = rise_to in omega arith)
 
-      n1_inside : n1 < length gates
-      n1_inside = (let u : n1 ≤ get_or places t 0 = n1_upto in let i : get_or places t 0 < length gates = full.inside t t_below in omega arith)
+      n1_inside : n1 < end
+      n1_inside = (let u : n1 ≤ get_or places t 0 = n1_upto in let i : get_or places t 0 < end = full.inside t t_below in omega arith)
 
-      move_first : (n : ℕ) (what : Seen) → get_or places 0 0 < n → n < get_or places t 0 → n < length gates → Touches (gate_at gates n) (last_wire (gate_at gates (get_or places 0 0))) →
-          IsSeenAt gates (last_wire (gate_at gates (get_or places 0 0))) n what → may_pass what (last_role p0) ≡ true
+      move_first : (n : ℕ) (what : Seen) → get_or places 0 0 < n → n < get_or places t 0 → n < end → Touches (gate_at gates n) (last_wire (gate_at gates (get_or places 0 0))) →
+          IsSeenWithin gates (last_wire (gate_at gates (get_or places 0 0))) end n what → may_pass what (last_role p0) ≡ true
       move_first n what more less inside touches is =
           subst (λ (r : Role). may_pass what r ≡ true) own
           (may_move n 0 t what (omega arith) t_below inside more less touches first_used (passed_over n touches (other_places t n t_below t_before more less)) is)
@@ -181,7 +182,7 @@ module _ (n : ℕ) (gates : List Gate) (p0 : Gate) (gs : List Gate) (places : Li
               let behind = then_next n1_inside in
               let ahead : n1 + 1 ≤ n2 = behind.ahead in
               let before : get_or places 0 0 + 1 ≤ n1 = first_next.ahead in
-              let inside : get_or places t 0 < length gates = full.inside t t_below in
+              let inside : get_or places t 0 < end = full.inside t t_below in
               or_second (may_be far (role_on (last_wire p0) (gate_at (p0 ∷ gs) t)))
               (move_first n2 far (omega arith) below (omega arith) (behind.uses (omega arith)) far_is)
           by (inr (inr beyond)) =
@@ -213,7 +214,7 @@ module _ (n : ℕ) (gates : List Gate) (p0 : Gate) (gs : List Gate) (places : Li
               let behind = then_next n1_inside in
               let ahead : n1 + 1 ≤ n2 = behind.ahead in
               let r : get_or places 0 0 < get_or places t 0 = rise_to in
-              let inside : get_or places u 0 < length gates = full.inside u u_below in
+              let inside : get_or places u 0 < end = full.inside u u_below in
               let touches = behind.uses (omega arith) in
               let passed = passed_over n2 touches (others less (omega arith)) in
               or_second (may_be far (role_on (last_wire p0) (gate_at (p0 ∷ gs) u)))
@@ -278,5 +279,22 @@ module _ (n : ℕ) (gates : List Gate) (p0 : Gate) (gs : List Gate) (places : Li
         by (inr (inr beyond)) =
             absurd (let upto : n1 ≤ get_or places (suc leads.at) 0 = n1_upto (suc leads.at) t_below (omega arith) leads.used before in omega arith)
 
-    pub match_admits : admits (p0 ∷ gs) near far ≡ true
-    match_admits = by_lane (roles_on (last_wire p0) gs) refl
+    pub match_admits_within : admits (p0 ∷ gs) near far ≡ true
+    match_admits_within = by_lane (roles_on (last_wire p0) gs) refl
+
+-- what is seen in the whole list
+next_within : {gates : List Gate} {wire from place : ℕ} → IsNextOn gates wire from place → IsNextWithin gates wire (length gates) from place
+next_within next = record { ahead = next.ahead; uses = next.uses; none = next.none }
+
+seen_within : (gates : List Gate) (wire place : ℕ) (what : Seen) → IsSeenAt gates wire place what → IsSeenWithin gates wire (length gates) place what
+seen_within gates wire place seen.Nothing is = is
+seen_within gates wire place seen.Unclear is = is
+seen_within gates wire place (seen.Plays played) is = is
+
+pub match_admits : (n : ℕ) (gates : List Gate) (p0 : Gate) (gs : List Gate) (places : List ℕ) → IsCircuit n (p0 ∷ gs) → IsFull gates (p0 ∷ gs) (length gates) places →
+    (n1 n2 : ℕ) (near far : Seen) → IsNextOn gates (last_wire (gate_at gates (get_or places 0 0))) (get_or places 0 0 + 1) n1 →
+    (n1 < length gates → IsNextOn gates (last_wire (gate_at gates (get_or places 0 0))) (n1 + 1) n2) →
+    IsSeenAt gates (last_wire (gate_at gates (get_or places 0 0))) n1 near → IsSeenAt gates (last_wire (gate_at gates (get_or places 0 0))) n2 far → admits (p0 ∷ gs) near far ≡ true
+match_admits n gates p0 gs places on full n1 n2 near far first_next then_next near_is far_is =
+    match_admits_within n gates p0 gs (length gates) places on full n1 n2 near far (next_within first_next) (λ inside. next_within (then_next inside))
+    (seen_within gates (last_wire (gate_at gates (get_or places 0 0))) n1 near near_is) (seen_within gates (last_wire (gate_at gates (get_or places 0 0))) n2 far far_is)

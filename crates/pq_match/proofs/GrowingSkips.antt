@@ -16,13 +16,12 @@ pub record AreSkipped (gates : List Gate) (used : List Bool) (free : Bool) (next
 
 -- Past places whose gates share no wire with the chosen ones, and which the next gate can't have, the walk goes on as if
 -- it had looked at each of them.
-pub walk_passes : (gates pattern : List Gate) (end : ℕ) (places : List ℕ) (count place next : ℕ) (free : Bool) →
-    IsWalked gates pattern end places count place → count < length pattern → place ≤ next →
-    (free ≡ false → ¬ ((before : ℕ) → before < count → AreApart (gate_at pattern before) (gate_at pattern count))) →
+pub walk_leaves : (gates pattern : List Gate) (end : ℕ) (places : List ℕ) (count place next : ℕ) →
+    IsWalked gates pattern end places count place → place ≤ next →
     ((p : ℕ) → place ≤ p → p < next → (s : ℕ) → s < count → AreApart (gate_at gates (get_or places s 0)) (gate_at gates p)) →
-    ((p : ℕ) → place ≤ p → p < next → free ≡ true → kind_of (gate_at gates p) ≡ kind_of (gate_at pattern count) → ⊥) →
+    ((other : List ℕ) → IsFull gates pattern end other → Begins places count other → place ≤ get_or other count 0 → get_or other count 0 < next → ⊥) →
     IsWalked gates pattern end places count next
-walk_passes gates pattern end places count place next free walked more upto bound apart other_kind = record {
+walk_leaves gates pattern end places count place next walked upto apart never = record {
   next = record {
     above = λ s below. (let low : get_or places s 0 < place = walked.next.above s below in omega arith);
     clear = λ s p below passed behind less. clear s p below passed behind less (cases_order p place);
@@ -38,20 +37,29 @@ walk_passes gates pattern end places count place next free walked more upto boun
     clear s p below passed behind less (inr (inr higher)) =
         commute_apart (gate_at gates (get_or places s 0)) (gate_at gates p) (apart p (omega arith) less s below)
 
-    never : (other : List ℕ) → IsFull gates pattern end other → Begins places count other → get_or other count 0 < next → (b : Bool) → free ≡ b → ⊥
-    never other full begins less true is =
-        other_kind (get_or other count 0) (walked.none other full begins) less is (full.fitting count more).kind
-    never other full begins less false is = bound is (λ before below w uses_before uses.
-        (let shared = share_alike (gate_at pattern before) (gate_at pattern count) (gate_at gates (get_or other before 0)) (gate_at gates (get_or other count 0))
-        ((full.fitting count more).wires before (omega arith)) w uses_before uses in
-        apart (get_or other count 0) (walked.none other full begins) less before below shared.0
-        (subst (λ (p : ℕ). Touches (gate_at gates p) shared.0) (begins before below) shared.1) shared.2))
-
     none : (other : List ℕ) → IsFull gates pattern end other → Begins places count other →
         (get_or other count 0 ≡ next) ⊎ ((get_or other count 0 < next) ⊎ (next < get_or other count 0)) → next ≤ get_or other count 0
     none other full begins (inl same) = omega arith
-    none other full begins (inr (inl less)) = absurd (never other full begins less free refl)
+    none other full begins (inr (inl less)) = absurd (never other full begins (walked.none other full begins) less)
     none other full begins (inr (inr behind)) = omega arith
+
+-- The same, where a gate that isn't free shares a wire with one before it in the pattern.
+walk_passes : (gates pattern : List Gate) (end : ℕ) (places : List ℕ) (count place next : ℕ) (free : Bool) →
+    IsWalked gates pattern end places count place → count < length pattern → place ≤ next →
+    (free ≡ false → ¬ ((before : ℕ) → before < count → AreApart (gate_at pattern before) (gate_at pattern count))) →
+    ((p : ℕ) → place ≤ p → p < next → (s : ℕ) → s < count → AreApart (gate_at gates (get_or places s 0)) (gate_at gates p)) →
+    ((p : ℕ) → place ≤ p → p < next → free ≡ true → kind_of (gate_at gates p) ≡ kind_of (gate_at pattern count) → ⊥) →
+    IsWalked gates pattern end places count next
+walk_passes gates pattern end places count place next free walked more upto bound apart other_kind =
+    walk_leaves gates pattern end places count place next walked upto apart (λ other full begins from less. never other full begins from less free refl)
+  where
+    never : (other : List ℕ) → IsFull gates pattern end other → Begins places count other → place ≤ get_or other count 0 → get_or other count 0 < next → (b : Bool) → free ≡ b → ⊥
+    never other full begins from less true is = other_kind (get_or other count 0) from less is (full.fitting count more).kind
+    never other full begins from less false is = bound is (λ before below w uses_before uses.
+        (let shared = share_alike (gate_at pattern before) (gate_at pattern count) (gate_at gates (get_or other before 0)) (gate_at gates (get_or other count 0))
+        ((full.fitting count more).wires before (omega arith)) w uses_before uses in
+        apart (get_or other count 0) from less before below shared.0
+        (subst (λ (p : ℕ). Touches (gate_at gates p) shared.0) (begins before below) shared.1) shared.2))
 
 -- The same, where the wires in use are told by their remainders.
 pub walk_skips : (gates pattern : List Gate) (end : ℕ) (places : List ℕ) (count place next : ℕ) (used : List Bool) (free : Bool) →

@@ -12,8 +12,12 @@ pub mod RewritingPlaces
 pub mod Growing
 pub mod GrowingWalk
 pub mod GrowingSkips
+pub mod Marking
 pub mod CursorLaws
+pub mod LookingAlike
 pub mod Seeking
+pub mod TyingLaws
+pub mod Tying
 pub mod SearchWires
 pub mod SearchTouches
 pub mod SearchNear
@@ -24,6 +28,7 @@ pub mod SearchMatch
 pub mod SearchRow
 pub mod SearchNumbers
 pub mod SearchFrom
+pub mod SearchAdmits
 pub mod SearchWithin
 pub mod Roles
 pub mod Admitting
@@ -34,3 +39,9 @@ pub mod RewritingTests
 pub mod Ranks
 pub mod RankedRedexes
 pub mod RankedRewriting
+pub mod Spreading
+pub mod RunsAround
+pub mod Exchanging
+pub mod Keeping
+pub mod Placed
+pub mod Working

@@ -1,5 +1,5 @@
 -- The redexes of some slots are those of the gates in them: their places are ranks.
-use Rattle.std.proofs.Common.{◌≡◌, ◌≢◌, ℕ, zero, suc, ◌+◌, ◌-◌, ◌<◌, ◌≤◌, Bool, true, false, List, [], ◌∷◌, ◌⊎◌, length, map, get_or, inl, inr, refl, ap, sym, subst, ◌∙◌, arith, eqb}
+use Rattle.std.proofs.Common.{◌≡◌, ◌≢◌, ℕ, suc, ◌-◌, ◌<◌, ◌≤◌, true, false, List, [], ◌∷◌, ◌⊎◌, length, map, get_or, inl, inr, refl, ap, sym, subst, ◌∙◌, arith, eqb}
 use Rattle.std.specs.Prelude.{All, AllPairs}
 use Rattle.std.proofs.lemmas.Bool.{cases_lt, cases_Bool, eq-eqb, eqb-true, both_ways}
 use Rattle.std.proofs.lemmas.List.{length-map, get_or-map, get_or_default}
@@ -8,23 +8,23 @@ use Rattle.std.proofs.lemmas.List.Folds.{Any-from_list_any, list_any_at}
 use Rattle.pq_gate.specs.declared.gate.Gate.{Gate}
 use Rattle.pq_gate.specs.declared.gate.Gate.TheVariants.{Cx}
 use Rattle.pq_gate.specs.declared.kind.Kind.TheVariants as kind
-use Rattle.pq_gate.specs.Circuit.{IsOnWires, IsCircuit}
+use Rattle.pq_gate.specs.Circuit.{IsOnWires}
 use Rattle.pq_gate.specs.Commuting.{Touches, Commutes}
 use Rattle.pq_gate.specs.Kind.{kind_of}
 use Rattle.pq_gate.specs.Ports.{first_wire}
 use Rattle.pq_gate.proofs.WireLaws.{touches_first}
-use Rattle.pq_links.specs.Slots.{no_wire, free_slot, is_free, AreSlots, gates_in}
+use Rattle.pq_links.specs.Slots.{no_wire, free_slot, is_free, AreSlots}
 use Rattle.pq_rules.specs.Row.{RowView, IsSound}
 use Rattle.pq_rules.specs.Renaming.{renamed}
 use Rattle.pq_match.specs.Wires.{wire_of}
-use Rattle.pq_match.specs.Redex.{RedexView, IsRedex, IsMatch, AreFree, HasNoRedex, gate_at, last_place, is_chosen}
+use Rattle.pq_match.specs.Redex.{RedexView, IsRedex, IsMatch, AreWires, AreFree, HasNoRedex, gate_at, last_place, is_chosen}
 use Rattle.pq_match.specs.First.{Precedes, key, IsFirst}
 use Rattle.pq_match.proofs.OneFirst.{row_sound, redex_within_all}
 use Rattle.pq_match.proofs.RewritingPlaces.{last_place_is}
 use Rattle.pq_match.proofs.RewritingWires.{places_long, chosen_at}
 use Rattle.pq_match.proofs.SearchGates.{kind-renamed, wire-renamed, wire_below, gate_on_wires, wires_apart}
 use Rattle.pq_match.proofs.SearchTouches.{commute_apart}
-use Rattle.pq_match.proofs.Ranks.{IsTaken, AreRanked, are_ranked, rank, slot_of}
+use Rattle.pq_match.proofs.Ranks.{IsTaken, AreRanked}
 
 -- the redex with other places
 abbrev pub moved : (ℕ → ℕ) → RedexView → RedexView
@@ -108,7 +108,7 @@ inside_moved lead places n each =
     omega arith)
 
 -- a free gate is the free slot's
-free_is : (slots : List Gate) (p : ℕ) → AreSlots slots → p < length slots → is_free (gate_at slots p) ≡ true → gate_at slots p ≡ free_slot
+pub free_is : (slots : List Gate) (p : ℕ) → AreSlots slots → p < length slots → is_free (gate_at slots p) ≡ true → gate_at slots p ≡ free_slot
 free_is slots p are inside free =
     let at : first_wire (gate_at slots p) ≡ no_wire = eqb-true (first_wire (gate_at slots p)) no_wire free in
     are p inside (subst (Touches (gate_at slots p)) at (touches_first (gate_at slots p)))
@@ -139,26 +139,29 @@ led_apart n wires gate on whole apart same =
     cx_apart n gate on is
     (wires_apart n wires (record { whole = whole; apart = apart }) (wire_of false gate) (wire_of true gate) (wire_below n gate false on) (wire_below n gate true on) (first ∙ sym last))
 
+-- gates stand in the slots that match a row's pattern
+pub placed_taken : (row : RowView) → IsSound row → (slots : List Gate) → AreSlots slots → (wires places : List ℕ) → AreWires row.wires wires → IsMatch slots row.pattern wires places →
+    (k : ℕ) → k < length places → IsTaken slots (get_or places k 0)
+placed_taken row sound slots free wires places are matches k below =
+    let long : length places ≡ length row.pattern = places_long slots row.pattern wires places matches.chosen in
+    let inside : get_or places k 0 < length slots = matches.inside k 0 below in
+    let gate : gate_at slots (get_or places k 0) ≡ renamed wires (gate_at row.pattern k) =
+    chosen_at slots row.pattern wires places matches.chosen k _ (omega arith) in
+    let on : IsOnWires row.wires (gate_at row.pattern k) = gate_on_wires row.wires row.pattern sound.wires.left k (omega arith) in
+    record {
+      inside = inside;
+      taken = by (cases_Bool (is_free (gate_at slots (get_or places k 0)))) (λ here. led_apart row.wires wires (gate_at row.pattern k) on are.whole are.apart
+          (sym gate ∙ free_is slots (get_or places k 0) free inside here));
+    }
+  where
+    by : (is_free (gate_at slots (get_or places k 0)) ≡ true) ⊎ (is_free (gate_at slots (get_or places k 0)) ≡ false) →
+        (is_free (gate_at slots (get_or places k 0)) ≡ true → ⊥) → is_free (gate_at slots (get_or places k 0)) ≡ false
+    by (inl here) none = absurd (none here)
+    by (inr not) none = not
+
 module _ (rules : List RowView) (sound : All IsSound rules) (slots : List Gate) (free : AreSlots slots) where
-  -- gates stand in the slots of a redex
   pub redex_taken : (redex : RedexView) → IsRedex rules slots redex → (k : ℕ) → k < length redex.places → IsTaken slots (get_or redex.places k 0)
-  redex_taken redex is k below =
-      let row : IsSound is.row = row_sound rules redex.row is.row is.numbered sound in
-      let long : length redex.places ≡ length is.row.pattern = places_long slots is.row.pattern redex.wires redex.places is.matches.chosen in
-      let inside : get_or redex.places k 0 < length slots = is.matches.inside k 0 below in
-      let gate : gate_at slots (get_or redex.places k 0) ≡ renamed redex.wires (gate_at is.row.pattern k) =
-      chosen_at slots is.row.pattern redex.wires redex.places is.matches.chosen k _ (omega arith) in
-      let on : IsOnWires is.row.wires (gate_at is.row.pattern k) = gate_on_wires is.row.wires is.row.pattern row.wires.left k (omega arith) in
-      record {
-        inside = inside;
-        taken = by (cases_Bool (is_free (gate_at slots (get_or redex.places k 0)))) (λ here. led_apart is.row.wires redex.wires (gate_at is.row.pattern k) on is.wires.whole is.wires.apart
-            (sym gate ∙ free_is slots (get_or redex.places k 0) free inside here));
-      }
-    where
-      by : (is_free (gate_at slots (get_or redex.places k 0)) ≡ true) ⊎ (is_free (gate_at slots (get_or redex.places k 0)) ≡ false) →
-          (is_free (gate_at slots (get_or redex.places k 0)) ≡ true → ⊥) → is_free (gate_at slots (get_or redex.places k 0)) ≡ false
-      by (inl here) none = absurd (none here)
-      by (inr not) none = not
+  redex_taken redex is = placed_taken is.row (row_sound rules redex.row is.row is.numbered sound) slots free redex.wires redex.places is.wires is.matches
 
   module _ (gates : List Gate) (up down : ℕ → ℕ) (are : AreRanked slots gates up down) where
     back_less : (p q : ℕ) → up p < up q → p < q

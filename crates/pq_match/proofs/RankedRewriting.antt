@@ -1,41 +1,28 @@
 -- Rewriting in slots: the chosen ones are freed, and the replacement stands in free ones around the last of them. The
 -- gates in the slots are then the rewritten list.
-use Rattle.std.proofs.Common.{◌≡◌, ◌≢◌, ℕ, zero, suc, ◌+◌, ◌-◌, ◌<◌, ◌≤◌, Bool, true, false, cond, List, [], ◌∷◌, ◌++◌, ◌⊎◌, length, map, get_or, take, drop, inl, inr, refl, ap, sym, subst, ◌∙◌, arith, append_assoc, eqb}
+use Rattle.std.proofs.Common.{◌≡◌, ℕ, zero, suc, ◌+◌, ◌-◌, ◌<◌, ◌≤◌, Bool, true, false, cond, List, [], ◌∷◌, ◌++◌, ◌⊎◌, length, map, get_or, take, drop, inl, inr, refl, ap, sym, subst, ◌∙◌, arith, append_assoc}
 use Rattle.std.specs.Prelude.{All, AllPairs}
 use Rattle.std.proofs.lemmas.Bool.{cases_lt, cases_Bool, ne_eqb, both_ways}
-use Rattle.std.proofs.lemmas.List.{length-map, length-append, length-take, length-drop, get_or-map, get_or-take, get_or-drop, get_or_default, take_more, take-append-drop, take_all, drop_more, drop_all, append-nil, same_lists, get_or_append_left, get_or-append_right}
+use Rattle.std.proofs.lemmas.List.{length-map, length-append, length-take, length-drop, get_or-map, get_or-take, get_or-drop, get_or_default, take_more, take-append-drop, drop_more, append-nil, same_lists, get_or_append_left, get_or-append_right}
 use Rattle.pq_gate.specs.declared.gate.Gate.{Gate}
 use Rattle.pq_gate.specs.declared.gate.Gate.TheVariants.{H}
-use Rattle.pq_gate.specs.Circuit.{IsOnWires, IsCircuit}
+use Rattle.pq_gate.specs.Circuit.{IsOnWires}
 use Rattle.pq_gate.specs.Commuting.{Touches}
 use Rattle.pq_gate.specs.Ports.{first_wire}
-use Rattle.pq_gate.proofs.WireLaws.{touches_first}
 use Rattle.pq_links.specs.Slots.{no_wire, free_slot, is_free, AreSlots, gates_in}
 use Rattle.pq_rules.specs.Row.{RowView, Uses, IsSound}
 use Rattle.pq_rules.specs.Renaming.{renamed}
 use Rattle.pq_match.specs.Wires.{wire_of}
 use Rattle.pq_match.specs.Redex.{RedexView, IsRedex, gate_at, last_place, is_chosen}
 use Rattle.pq_match.specs.Rewrite.{unchosen, rewritten}
+use Rattle.pq_match.specs.Work.{AreFreed, AreFilled}
 use Rattle.pq_match.proofs.OneFirst.{row_sound}
 use Rattle.pq_match.proofs.RenamedWires.{touches_renamed}
-use Rattle.pq_match.proofs.RewritingPlaces.{unchosen-append, last_place_is}
+use Rattle.pq_match.proofs.RewritingPlaces.{unchosen-append, before_first}
 use Rattle.pq_match.proofs.RewritingWires.{places_long, chosen_at}
 use Rattle.pq_match.proofs.SearchGates.{wire-renamed, wire_below, gate_on_wires}
-use Rattle.pq_match.proofs.Ranks.{IsTaken, rank, rank_taken, rank_gate, rank_less, front_gates, back_gates}
-use Rattle.pq_match.proofs.RankedRedexes.{moved, IsChosenAt, chosen_somewhere, is_chosen_at, last_moved, last_is_at, moved_at, taken_apart, redex_taken}
-
--- the slots at the places were freed, and no other changed
-pub record AreFreed (old new : List Gate) (places : List ℕ) : Type 0 where
-  pub whole : length new ≡ length old
-  pub freed : (p : ℕ) → p < length old → is_chosen places p ≡ true → gate_at new p ≡ free_slot
-  pub others : (p : ℕ) → p < length old → is_chosen places p ≡ false → gate_at new p ≡ gate_at old p
-
--- the gates were put into the slots from the start on, and no other changed
-pub record AreFilled (old new : List Gate) (start : ℕ) (gates : List Gate) : Type 0 where
-  pub whole : length new ≡ length old
-  pub filled : (k : ℕ) → k < length gates → gate_at new (start + k) ≡ gate_at gates k
-  pub before : (p : ℕ) → p < start → gate_at new p ≡ gate_at old p
-  pub behind : (p : ℕ) → start + length gates ≤ p → gate_at new p ≡ gate_at old p
+use Rattle.pq_match.proofs.Ranks.{IsTaken, rank, rank_taken, rank_less, front_gates, back_gates}
+use Rattle.pq_match.proofs.RankedRedexes.{moved, chosen_somewhere, is_chosen_at, last_moved, last_is_at, moved_at, taken_apart, redex_taken}
 
 pub gates_in-append : (xs ys : List Gate) → gates_in (xs ++ ys) ≡ gates_in xs ++ gates_in ys
 gates_in-append [] ys = refl
@@ -84,8 +71,7 @@ between : (xs : List Gate) (a b : ℕ) → a ≤ b → b ≤ length xs → ((p :
     (gates_in (take b xs) ≡ gates_in (take a xs)) × (gates_in (drop a xs) ≡ gates_in (drop b xs))
 between xs a b upto inside free =
     let e : a + (b - a) ≡ b = omega arith in
-    let each : (p : ℕ) → a ≤ p → p < a + (b - a) → is_free (gate_at xs p) ≡ true = λ p from below. free p from (omega arith) in
-    (
+    let each : (p : ℕ) → a ≤ p → p < a + (b - a) → is_free (gate_at xs p) ≡ true = λ p from below. free p from (omega arith) in (
       ap (λ k. gates_in (take k xs)) (sym e) ∙ skip_front xs a (b - a) (omega arith) each,
       skip_back xs a (b - a) (omega arith) each ∙ ap (λ k. gates_in (drop k xs)) e,
     )
@@ -215,7 +201,7 @@ filled_front old new start gates is room =
         ∙ sym (get_or-append_right (take start old) gates start k d (omega (arith, length-take start old)) behind)
 
 -- a place behind the last one isn't chosen
-behind_last : (places : List ℕ) → AllPairs (λ i j. i < j) places → (p : ℕ) → last_place places < p → is_chosen places p ≡ false
+pub behind_last : (places : List ℕ) → AllPairs (λ i j. i < j) places → (p : ℕ) → last_place places < p → is_chosen places p ≡ false
 behind_last places rising p after = by (cases_Bool (is_chosen places p))
   where
     by : (is_chosen places p ≡ true) ⊎ (is_chosen places p ≡ false) → is_chosen places p ≡ false
@@ -230,6 +216,10 @@ behind_last places rising p after = by (cases_Bool (is_chosen places p))
               let same : get_or places found.at 0 ≡ get_or places (length places - 1) 0 = ap (λ k. get_or places k 0) e in omega arith)
         ])
     by (inr not) = not
+
+-- nor one before the first one
+pub before_chosen : (places : List ℕ) → AllPairs (λ i j. i < j) places → (p : ℕ) → p < get_or places 0 0 → is_chosen places p ≡ false
+before_chosen places rising p below = before_first places rising p below
 
 module _ (rules : List RowView) (sound : All IsSound rules) (slots : List Gate) (free : AreSlots slots) (redex : RedexView) (is : IsRedex rules slots redex) where
   -- a gate of the replacement isn't led to the free slot's wire

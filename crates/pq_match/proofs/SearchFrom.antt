@@ -12,12 +12,14 @@ use Rattle.pq_match.specs.Found.{seen, IsFoundAmong}
 use Rattle.pq_match.specs.Search.{IsFrom, IsOfRow}
 use Rattle.pq_match.proofs.SearchGates.{kind-renamed}
 use Rattle.pq_match.proofs.RewritingWires.{places_long, chosen_at}
-use Rattle.pq_match.proofs.SearchNumbers.{begins_by_kind, numbers_rise, stands_where}
+use Rattle.pq_match.proofs.SearchNumbers.{begins_by_kind, stands_where}
 use Rattle.pq_match.proofs.SearchPlaces.{StandsAt}
 
--- none of the rows with the first of these numbers has a redex here
+-- The rows of all redexes from the start that lie before the end are among those with these numbers, which rise; and
+-- none of the rows with the first of them has a redex here.
 pub record AreTried (rules : List RowView) (gates : List Gate) (start end : ℕ) (numbers : List ℕ) (index : ℕ) : Type 0 where
-  pub are : numbers ≡ numbers_starting (number_of (kind_of (gate_at gates start))) 1 rules
+  pub rise : (i j : ℕ) → i < j → j < length numbers → get_or numbers i 0 < get_or numbers j 0
+  pub all : (other : RedexView) → IsRedex rules gates other → IsFrom start end other → StandsAt numbers other.row
   pub none : (k : ℕ) → k < index → (other : RedexView) → IsRedex rules gates other → ¬ IsOfRow (get_or numbers k 0) start end other
 
 module _ (rules : List RowView) (gates : List Gate) (start end : ℕ) where
@@ -37,18 +39,13 @@ module _ (rules : List RowView) (gates : List Gate) (start end : ℕ) where
   row_stands other is at =
       stands_where (λ row. begins (number_of (kind_of (gate_at gates start))) row.pattern) rules other.row is.row is.numbered (begins_here other is at)
 
--- a redex that begins here is of a row with one of the numbers
-stands_in : {rules : List RowView} {gates : List Gate} {start end : ℕ} {numbers : List ℕ} {index : ℕ} → AreTried rules gates start end numbers index →
-    (other : RedexView) → IsRedex rules gates other → get_or other.places 0 0 ≡ start → StandsAt numbers other.row
-stands_in {rules} {gates} {start} {end} tried other is at = subst (λ (ns : List ℕ). StandsAt ns other.row) (sym tried.are) (row_stands rules gates start end other is at)
-
-pub none_tried : (rules : List RowView) (gates : List Gate) (start end : ℕ) (numbers : List ℕ) → numbers ≡ numbers_starting (number_of (kind_of (gate_at gates start))) 1 rules →
-    AreTried rules gates start end numbers 0
-none_tried rules gates start end numbers are = record { are = are; none = λ k below. absurd (omega arith) }
-
 pub tried_more : {rules : List RowView} {gates : List Gate} {start end : ℕ} {numbers : List ℕ} {index : ℕ} → AreTried rules gates start end numbers index →
     HasNoneAmong (IsOfRow (get_or numbers index 0) start end) rules gates → AreTried rules gates start end numbers (index + 1)
-tried_more {rules} {gates} {start} {end} {numbers} {index} tried none = record { are = tried.are; none = λ k below. by k below (cases_order k index) }
+tried_more {rules} {gates} {start} {end} {numbers} {index} tried none = record {
+  rise = tried.rise;
+  all = tried.all;
+  none = λ k below. by k below (cases_order k index);
+}
   where
     by : (k : ℕ) → k < index + 1 → (k ≡ index) ⊎ ((k < index) ⊎ (index < k)) → (other : RedexView) → IsRedex rules gates other → ¬ IsOfRow (get_or numbers k 0) start end other
     by k below (inl same) = subst (λ (i : ℕ). (other : RedexView) → IsRedex rules gates other → ¬ IsOfRow (get_or numbers i 0) start end other) (sym same) none.none
@@ -59,7 +56,7 @@ pub tried_all : {rules : List RowView} {gates : List Gate} {start end : ℕ} {nu
     length numbers ≤ index → HasNoneAmong (IsFrom start end) rules gates
 tried_all {rules} {gates} {start} {end} {numbers} {index} tried all = record {
   none = λ other is from.
-      (let stands = stands_in tried other is from.0 in
+      (let stands = tried.all other is from in
       let below : stands.at < length numbers = stands.below in
       tried.none stands.at (omega arith) other is (sym stands.is, from.0, from.1));
 }
@@ -71,16 +68,11 @@ tried_first {rules} {gates} {start} {end} {numbers} {index} {redex} tried inside
   first = record {
     is = first.first.is;
     among = (first.first.among.1, first.first.among.2);
-    first = λ other is from before. (let stands = stands_in tried other is from.0 in by other is from before stands (cases_order stands.at index));
+    first = λ other is from before. (let stands = tried.all other is from in by other is from before stands (cases_order stands.at index));
   };
   padded = first.padded;
 }
   where
-    rise : (i j : ℕ) → i < j → j < length numbers → get_or numbers i 0 < get_or numbers j 0
-    rise i j less below =
-        subst (λ (ns : List ℕ). (i j : ℕ) → i < j → j < length ns → get_or ns i 0 < get_or ns j 0) (sym tried.are)
-        (λ i j less below. numbers_rise (λ row. begins (number_of (kind_of (gate_at gates start))) row.pattern) 1 rules i j 0 less below) i j less below
-
     later : (other : RedexView) → IsFrom start end other → (get_or numbers index 0 < other.row) →
         Precedes (key other) (key (seen redex first.wires)) → ⊥
     later other from more (inl less) =
@@ -97,4 +89,4 @@ tried_first {rules} {gates} {start} {end} {numbers} {index} {redex} tried inside
     by other is from before stands (inr (inl less)) = tried.none stands.at less other is (sym stands.is, from.0, from.1)
     by other is from before stands (inr (inr more)) =
         later other from
-        (subst (λ (n : ℕ). get_or numbers index 0 < n) stands.is (rise index stands.at more stands.below)) before
+        (subst (λ (n : ℕ). get_or numbers index 0 < n) stands.is (tried.rise index stands.at more stands.below)) before

@@ -1,16 +1,17 @@
--- The redexes at a start, row by row, in every list that begins with the gates that were looked at.
+-- The redexes at a start, row by row, in all slots that look alike where the search looked.
 use Rattle.std.proofs.Common.{◌≡◌, ℕ, true, ◌+◌, ◌<◌, ◌≤◌, ◌⊎◌, inl, inr, List, [], ◌∷◌, length, get_or, Some, None, refl, sym, ap, subst, ◌∙◌, arith}
 use Rattle.std.proofs.lemmas.Bool.{cases_order}
 use Rattle.pq_gate.specs.declared.gate.Gate.{Gate}
 use Rattle.pq_gate.specs.Kind.{kind_of, number_of}
-use Rattle.pq_rules.specs.Kinds.{begins, numbers_starting, row_numbered}
+use Rattle.pq_rules.specs.Kinds.{row_numbered}
 use Rattle.pq_rules.specs.Row.{RowView, IsSound}
 use Rattle.pq_match.specs.declared.redex.Redex.{Redex}
 use Rattle.pq_match.specs.Redex.{RedexView, IsRedex, gate_at}
 use Rattle.pq_match.specs.First.{Precedes, key}
 use Rattle.pq_match.specs.Found.{seen, IsFoundAmong}
 use Rattle.pq_match.specs.Search.{IsFirstFull}
-use Rattle.pq_match.specs.Seek.{BeginAlike, HasNoneAlike, HasNoFullAlike, StartsAt, IsRowAt}
+use Rattle.pq_match.specs.declared.looked.Looked.{Looked}
+use Rattle.pq_match.specs.Seek.{IsMarked, LooksAtMore, LookAlike, HasNoneAlike, HasNoFullAlike, StartsAt, IsRowAt}
 use Rattle.std.specs.List.{All}
 use Rattle.std.proofs.lemmas.Bool.{cases_lt}
 use Rattle.pq_gate.specs.Circuit.{IsCircuit}
@@ -21,26 +22,29 @@ use Rattle.pq_rules.specs.declared.seen.Seen.TheVariants as seen
 use Rattle.pq_rules.specs.Kinds.{numbers_where}
 use Rattle.pq_rules.specs.Seen.{role_on, admits, is_admitting}
 use Rattle.pq_links.specs.Links.{IsNextOn}
+use Rattle.pq_links.specs.Slots.{AreSlots}
 use Rattle.pq_match.specs.Search.{IsFull}
 use Rattle.pq_match.specs.Seek.{IsClear, IsSeenAt}
 use Rattle.pq_match.proofs.Admitting.{match_admits}
 use Rattle.pq_match.proofs.OneFirst.{last_inside, row_sound}
 use Rattle.pq_match.proofs.Roles.{both_true}
-use Rattle.pq_match.proofs.Seeking.{same_gate, same_list, both_inside, alike_shorter}
-use Rattle.pq_match.proofs.SearchFrom.{row_stands, begins_here}
+use Rattle.pq_match.proofs.LookingAlike.{looks_alike, alike_less, as_long, same_past}
+use Rattle.pq_match.proofs.SearchFrom.{begins_here}
 use Rattle.pq_match.proofs.SearchMatch.{match_full}
 use Rattle.pq_match.proofs.SearchNumbers.{numbers_rise, stands_where}
 use Rattle.pq_match.proofs.SearchPlaces.{StandsAt}
 use Rattle.pq_match.proofs.SearchRow.{none_of_row, first_of_row}
 
 -- what was found out of a part holds of more
-pub none_alike_more : {P : RedexView → Type 0} {rules : List RowView} {gates : List Gate} {less : ℕ} (reach : ℕ) → less ≤ reach → HasNoneAlike P rules gates less → HasNoneAlike P rules gates reach
-none_alike_more {P} {rules} {gates} {less} reach upto none = record { none = λ other alike. none.none other (alike_shorter gates other reach alike less upto) }
+pub none_alike_more : {P : RedexView → Type 0} {rules : List RowView} {gates : List Gate} {start : ℕ} {less more : Looked} → LooksAtMore less more → HasNoneAlike P rules gates start less →
+    HasNoneAlike P rules gates start more
+none_alike_more looks none = record { none = λ other slots alike. none.none other slots (alike_less looks alike) }
 
 -- no row has this number
-pub no_row_alike : {rules : List RowView} {number : ℕ} (gates : List Gate) (start reach : ℕ) → None ≡ row_numbered rules number → HasNoneAlike (IsRowAt number start) rules gates reach
-no_row_alike {rules} {number} gates start reach none = record {
-  none = λ other alike. record { none = λ redex is of. never redex is of };
+pub no_row_alike : {rules : List RowView} {number : ℕ} (gates : List Gate) (start : ℕ) (looked : Looked) → None ≡ row_numbered rules number →
+    HasNoneAlike (IsRowAt number start) rules gates start looked
+no_row_alike {rules} {number} gates start looked none = record {
+  none = λ other slots alike. record { none = λ redex is of. never redex is of };
 }
   where
     never : {other : List Gate} (redex : RedexView) → IsRedex rules other redex → IsRowAt number start redex → ⊥
@@ -48,12 +52,12 @@ no_row_alike {rules} {number} gates start reach none = record {
         let e : None ≡ Some is.row = none ∙ (ap (row_numbered rules) (sym of.0) ∙ is.numbered) in cc
 
 -- of a row whose pattern's gates have no places from the start
-pub none_of_row_alike : {rules : List RowView} {gates : List Gate} {number start reach : ℕ} {row : RowView} (front : List ℕ) → row_numbered rules number ≡ Some row → IsSound row →
-    get_or front 0 0 ≡ start → HasNoFullAlike gates row.pattern reach front 1 → HasNoneAlike (IsRowAt number start) rules gates reach
-none_of_row_alike {rules} {gates} {number} {start} {reach} {row} front numbered sound at none = record {
-  none = λ other alike. record {
+pub none_of_row_alike : {rules : List RowView} {gates : List Gate} {number start : ℕ} {looked : Looked} {row : RowView} (front : List ℕ) → row_numbered rules number ≡ Some row → IsSound row →
+    get_or front 0 0 ≡ start → HasNoFullAlike gates row.pattern looked front 1 → HasNoneAlike (IsRowAt number start) rules gates start looked
+none_of_row_alike {rules} {gates} {number} {start} {looked} {row} front numbered sound at none = record {
+  none = λ other slots alike. record {
     none = λ redex is of.
-        (none_of_row rules other number start (length other) row numbered sound front at (none.none other alike)).none redex is
+        (none_of_row rules other number start (length other) row numbered sound front at (none.none other slots (subst (λ (p : ℕ). LookAlike p looked gates other) (sym at) alike))).none redex is
         (of.0, of.1, last_inside (length other) redex.places is.matches.inside is.some);
   };
 }
@@ -75,65 +79,53 @@ first_of_row_alike {rules} {gates} {number} {start} {row} {places} front numbere
     }
 
 -- The rows of all redexes at the start are among those with these numbers, which rise.
-pub record AreCandidates (rules : List RowView) (gates : List Gate) (start reach : ℕ) (numbers : List ℕ) : Type 0 where
+pub record AreCandidates (rules : List RowView) (gates : List Gate) (start : ℕ) (looked : Looked) (numbers : List ℕ) : Type 0 where
   pub rise : (i j : ℕ) → i < j → j < length numbers → get_or numbers i 0 < get_or numbers j 0
-  pub all : (other : List Gate) → BeginAlike reach gates other → (redex : RedexView) → IsRedex rules other redex → StartsAt start redex → StandsAt numbers redex.row
-
--- the rows that begin with a gate of the kind of the gate at the start
-pub starting_candidates : (rules : List RowView) (gates : List Gate) (start reach : ℕ) (numbers : List ℕ) → start < reach →
-    numbers ≡ numbers_starting (number_of (kind_of (gate_at gates start))) 1 rules → AreCandidates rules gates start reach numbers
-starting_candidates rules gates start reach numbers seen are = record {
-  rise = λ i j less below.
-      subst (λ (ns : List ℕ). (i j : ℕ) → i < j → j < length ns → get_or ns i 0 < get_or ns j 0) (sym are)
-      (λ i j less below. numbers_rise (λ row. begins (number_of (kind_of (gate_at gates start))) row.pattern) 1 rules i j 0 less below) i j less below;
-  all = λ other alike redex is at.
-      subst (λ (ns : List ℕ). StandsAt ns redex.row) (sym (are ∙ ap (λ (g : Gate). numbers_starting (number_of (kind_of g)) 1 rules) (same_gate gates other reach alike start seen)))
-      (row_stands rules other start 0 redex is at);
-}
+  pub all : (other : List Gate) → AreSlots other → LookAlike start looked gates other → (redex : RedexView) → IsRedex rules other redex → StartsAt start redex → StandsAt numbers redex.row
 
 -- none of the rows with the first of these numbers has a redex here
-pub record AreTriedAlike (rules : List RowView) (gates : List Gate) (start reach : ℕ) (numbers : List ℕ) (index : ℕ) : Type 0 where
-  pub candidates : AreCandidates rules gates start reach numbers
-  pub none : (k : ℕ) → k < index → HasNoneAlike (IsRowAt (get_or numbers k 0) start) rules gates reach
+pub record AreTriedAlike (rules : List RowView) (gates : List Gate) (start : ℕ) (looked : Looked) (numbers : List ℕ) (index : ℕ) : Type 0 where
+  pub candidates : AreCandidates rules gates start looked numbers
+  pub none : (k : ℕ) → k < index → HasNoneAlike (IsRowAt (get_or numbers k 0) start) rules gates start looked
 
-pub none_tried_alike : {rules : List RowView} {gates : List Gate} {start reach : ℕ} {numbers : List ℕ} → AreCandidates rules gates start reach numbers →
-    AreTriedAlike rules gates start reach numbers 0
+pub none_tried_alike : {rules : List RowView} {gates : List Gate} {start : ℕ} {looked : Looked} {numbers : List ℕ} → AreCandidates rules gates start looked numbers →
+    AreTriedAlike rules gates start looked numbers 0
 none_tried_alike candidates = record { candidates = candidates; none = λ k below. absurd (omega arith) }
 
-pub tried_more_alike : {rules : List RowView} {gates : List Gate} {start less : ℕ} {numbers : List ℕ} {index : ℕ} (reach : ℕ) → AreTriedAlike rules gates start less numbers index → less ≤ reach →
-    HasNoneAlike (IsRowAt (get_or numbers index 0) start) rules gates reach → AreTriedAlike rules gates start reach numbers (index + 1)
-tried_more_alike {rules} {gates} {start} {less} {numbers} {index} reach tried upto none = record {
+pub tried_more_alike : {rules : List RowView} {gates : List Gate} {start : ℕ} {less looked : Looked} {numbers : List ℕ} {index : ℕ} → AreTriedAlike rules gates start less numbers index →
+    LooksAtMore less looked → HasNoneAlike (IsRowAt (get_or numbers index 0) start) rules gates start looked → AreTriedAlike rules gates start looked numbers (index + 1)
+tried_more_alike {rules} {gates} {start} {less} {looked} {numbers} {index} tried looks none = record {
   candidates = record {
     rise = tried.candidates.rise;
-    all = λ other alike. tried.candidates.all other (alike_shorter gates other reach alike less upto);
+    all = λ other slots alike. tried.candidates.all other slots (alike_less looks alike);
   };
   none = λ k below. by k below (cases_order k index);
 }
   where
-    by : (k : ℕ) → k < index + 1 → (k ≡ index) ⊎ ((k < index) ⊎ (index < k)) → HasNoneAlike (IsRowAt (get_or numbers k 0) start) rules gates reach
-    by k below (inl same) = subst (λ (i : ℕ). HasNoneAlike (IsRowAt (get_or numbers i 0) start) rules gates reach) (sym same) none
-    by k below (inr (inl lower)) = none_alike_more reach upto (tried.none k lower)
+    by : (k : ℕ) → k < index + 1 → (k ≡ index) ⊎ ((k < index) ⊎ (index < k)) → HasNoneAlike (IsRowAt (get_or numbers k 0) start) rules gates start looked
+    by k below (inl same) = subst (λ (i : ℕ). HasNoneAlike (IsRowAt (get_or numbers i 0) start) rules gates start looked) (sym same) none
+    by k below (inr (inl lower)) = none_alike_more looks (tried.none k lower)
     by k below (inr (inr more)) = absurd (omega arith)
 
-pub tried_all_alike : {rules : List RowView} {gates : List Gate} {start reach : ℕ} {numbers : List ℕ} {index : ℕ} → AreTriedAlike rules gates start reach numbers index →
-    length numbers ≤ index → HasNoneAlike (StartsAt start) rules gates reach
-tried_all_alike {rules} {gates} {start} {reach} {numbers} {index} tried all = record {
-  none = λ other alike. record {
+pub tried_all_alike : {rules : List RowView} {gates : List Gate} {start : ℕ} {looked : Looked} {numbers : List ℕ} {index : ℕ} → AreTriedAlike rules gates start looked numbers index →
+    length numbers ≤ index → HasNoneAlike (StartsAt start) rules gates start looked
+tried_all_alike {rules} {gates} {start} {looked} {numbers} {index} tried all = record {
+  none = λ other slots alike. record {
     none = λ redex is at.
-        (let stands = tried.candidates.all other alike redex is at in
+        (let stands = tried.candidates.all other slots alike redex is at in
         let below : stands.at < length numbers = stands.below in
-        ((tried.none stands.at (omega arith)).none other alike).none redex is (sym stands.is, at));
+        ((tried.none stands.at (omega arith)).none other slots alike).none redex is (sym stands.is, at));
   };
 }
 
-pub tried_first_alike : {rules : List RowView} {gates : List Gate} {start reach : ℕ} {numbers : List ℕ} {index : ℕ} {redex : Redex} → AreTriedAlike rules gates start reach numbers index →
-    index < length numbers → IsFoundAmong (IsRowAt (get_or numbers index 0) start) rules gates redex → IsFoundAmong (StartsAt start) rules gates redex
-tried_first_alike {rules} {gates} {start} {reach} {numbers} {index} {redex} tried inside found = record {
+pub tried_first_alike : {rules : List RowView} {gates : List Gate} {start : ℕ} {looked : Looked} {numbers : List ℕ} {index : ℕ} {redex : Redex} → AreSlots gates →
+    AreTriedAlike rules gates start looked numbers index → index < length numbers → IsFoundAmong (IsRowAt (get_or numbers index 0) start) rules gates redex → IsFoundAmong (StartsAt start) rules gates redex
+tried_first_alike {rules} {gates} {start} {looked} {numbers} {index} {redex} slots tried inside found = record {
   wires = found.wires;
   first = record {
     is = found.first.is;
     among = found.first.among.1;
-    first = λ other is at before. (let stands = tried.candidates.all gates refl other is at in by other is at before stands (cases_order stands.at index));
+    first = λ other is at before. (let stands = tried.candidates.all gates slots looks_alike other is at in by other is at before stands (cases_order stands.at index));
   };
   padded = found.padded;
 }
@@ -150,35 +142,78 @@ tried_first_alike {rules} {gates} {start} {reach} {numbers} {index} {redex} trie
         (stands : StandsAt numbers other.row) → (stands.at ≡ index) ⊎ ((stands.at < index) ⊎ (index < stands.at)) → ⊥
     by other is at before stands (inl same) =
         found.first.first other is (sym stands.is ∙ ap (λ (k : ℕ). get_or numbers k 0) same, at) before
-    by other is at before stands (inr (inl less)) = ((tried.none stands.at less).none gates refl).none other is (sym stands.is, at)
+    by other is at before stands (inr (inl less)) = ((tried.none stands.at less).none gates slots looks_alike).none other is (sym stands.is, at)
     by other is at before stands (inr (inr more)) =
         later other at (subst (λ (n : ℕ). get_or numbers index 0 < n) stands.is (tried.candidates.rise index stands.at more stands.below)) before
 
--- What is seen on a wire is seen in every list that begins with the gates that were looked at.
-pub seen_alike : {gates other : List Gate} {reach wire from place : ℕ} (what : Seen) → BeginAlike reach gates other → place < reach ⊎ (length gates < reach) →
-    IsNextOn gates wire from place → IsSeenAt gates wire place what → IsNextOn other wire from place × IsSeenAt other wire place what
-seen_alike {gates} {other} {reach} {wire} {from} {place} what alike (inr whole) next is =
-    subst (λ (xs : List Gate). IsNextOn xs wire from place × IsSeenAt xs wire place what) (same_list gates other reach alike whole) (next, is)
-seen_alike {gates} {other} {reach} {wire} {from} {place} what alike (inl near) next is = by (cases_lt place (length gates))
-  where
-    by : (place < length gates) ⊎ (length gates ≤ place) → IsNextOn other wire from place × IsSeenAt other wire place what
-    by (inr past) =
-        subst (λ (xs : List Gate). IsNextOn xs wire from place × IsSeenAt xs wire place what) (same_list gates other reach alike (omega arith)) (next, is)
-    by (inl inside) = (
-      record {
-        ahead = next.ahead;
-        uses = λ _. subst (λ (g : Gate). Touches g wire) (same_gate gates other reach alike place near) (next.uses inside);
-        none = λ p above below in_other.
-            subst (λ (g : Gate). ¬ Touches g wire) (same_gate gates other reach alike p (omega arith)) (next.none p above below (omega arith));
-        past = λ past. absurd (let i : place < length other = both_inside gates other reach alike place near inside in omega arith);
-      },
-      at what is,
-    )
-      where
-        at : (what : Seen) → IsSeenAt gates wire place what → IsSeenAt other wire place what
-        at seen.Nothing is = (let past : length gates ≤ place = is in absurd (omega arith))
-        at seen.Unclear is = is
-        at (seen.Plays own) is = subst (λ (g : Gate). (own ≡ role_on wire g) × IsClear g) (same_gate gates other reach alike place near) is
+-- What is seen on a marked wire behind the start is seen in all slots that look alike.
+module _ {gates other : List Gate} {start : ℕ} {looked : Looked} (alike : LookAlike start looked gates other) {wire from place : ℕ} (marked : IsMarked looked.mask wire) (behind : start < from)
+    (near : place < looked.reach ⊎ (length gates < looked.reach)) (next : IsNextOn gates wire from place) where
+  -- a gate on the wire is the same, below the reach
+  same_on : (p : ℕ) → from ≤ p → p < looked.reach → Touches (gate_at gates p) wire ⊎ Touches (gate_at other p) wire → gate_at gates p ≡ gate_at other p
+  same_on p above below uses = alike.same p wire (omega arith) below marked uses
+
+  near_inside : place < length gates → place < looked.reach
+  near_inside inside = by near
+    where
+      by : place < looked.reach ⊎ (length gates < looked.reach) → place < looked.reach
+      by (inl is) = is
+      by (inr whole) = omega arith
+
+  whole_past : length gates ≤ place → length gates < looked.reach
+  whole_past past = by near
+    where
+      by : place < looked.reach ⊎ (length gates < looked.reach) → length gates < looked.reach
+      by (inl is) = omega arith
+      by (inr whole) = whole
+
+  same_here : gate_at gates place ≡ gate_at other place
+  same_here = by (cases_lt place (length gates))
+    where
+      by : (place < length gates) ⊎ (length gates ≤ place) → gate_at gates place ≡ gate_at other place
+      by (inl inside) = same_on place next.ahead (near_inside inside) (inl (next.uses inside))
+      by (inr past) = same_past alike place (whole_past past) past
+
+  pub next_alike : IsNextOn other wire from place
+  next_alike = by (cases_lt place (length gates))
+    where
+      none : (p : ℕ) → from ≤ p → p < place → p < looked.reach → p < length other → ¬ Touches (gate_at other p) wire
+      none p above less below inside uses =
+          next.none p above less ((alike.long p below).1 inside) (subst (λ (g : Gate). Touches g wire) (sym (same_on p above below (inr uses))) uses)
+
+      by : (place < length gates) ⊎ (length gates ≤ place) → IsNextOn other wire from place
+      by (inl inside) =
+          let below : place < looked.reach = near_inside inside in
+          record {
+            ahead = next.ahead;
+            uses = λ _. subst (λ (g : Gate). Touches g wire) same_here (next.uses inside);
+            none = λ p above less in_other. none p above less (omega arith) in_other;
+            past = λ past. absurd (let in_other : place < length other = (alike.long place below).0 inside in omega arith);
+          }
+      by (inr past) =
+          let whole : length gates < looked.reach = whole_past past in
+          let long : length gates ≡ length other = as_long alike whole in
+          record {
+            ahead = next.ahead;
+            uses = λ in_other. absurd (omega arith);
+            none = λ p above less in_other. none p above less (omega arith) in_other;
+            past = λ _. next.past past;
+          }
+
+  pub seen_alike : (what : Seen) → IsSeenAt gates wire place what → IsSeenAt other wire place what
+  seen_alike seen.Nothing is =
+      let past : length gates ≤ place = is in
+      let long : length gates ≡ length other = as_long alike (whole_past past) in
+      omega arith
+  seen_alike seen.Unclear is = is
+  seen_alike (seen.Plays own) is = subst (λ (g : Gate). (own ≡ role_on wire g) × IsClear g) same_here is
+
+-- past the end nothing is seen
+seen_past : {gates other : List Gate} {start : ℕ} {looked : Looked} → LookAlike start looked gates other → (wire place : ℕ) (what : Seen) → length gates < looked.reach → length gates ≤ place →
+    IsSeenAt gates wire place what → IsSeenAt other wire place what
+seen_past alike wire place seen.Nothing whole past is = (let long = as_long alike whole in omega arith)
+seen_past alike wire place seen.Unclear whole past is = is
+seen_past alike wire place (seen.Plays own) whole past is = subst (λ (g : Gate). (own ≡ role_on wire g) × IsClear g) (same_past alike place whole past) is
 
 -- a redex of a sound row at the start is of a row that admits what is seen
 row_admits : (rules : List RowView) (gates : List Gate) (start n1 n2 : ℕ) (near far : Seen) → All IsSound rules → (redex : RedexView) → (is : IsRedex rules gates redex) → StartsAt start redex →
@@ -205,43 +240,42 @@ row_admits rules gates start n1 n2 near far sound redex is at first_next then_ne
         (subst (λ (s : ℕ). IsSeenAt gates (last_wire (gate_at gates s)) n2 far) (sym at) far_is)
 
 -- the rows that begin with a gate of the kind of the gate at the start, and admit what is seen behind it
-pub admitting_candidates : (rules : List RowView) (gates : List Gate) (start reach n1 n2 : ℕ) (near far : Seen) (numbers : List ℕ) → All IsSound rules → start < reach →
-    n1 < reach ⊎ (length gates < reach) → n2 < reach ⊎ (length gates < reach) →
+pub admitting_candidates : (rules : List RowView) (gates : List Gate) (start : ℕ) (looked : Looked) (n1 n2 : ℕ) (near far : Seen) (numbers : List ℕ) → All IsSound rules →
+    IsMarked looked.mask (last_wire (gate_at gates start)) →
+    n1 < looked.reach ⊎ (length gates < looked.reach) → n2 < looked.reach ⊎ (length gates < looked.reach) →
     IsNextOn gates (last_wire (gate_at gates start)) (start + 1) n1 → IsNextOn gates (last_wire (gate_at gates start)) (n1 + 1) n2 ⊎ (length gates ≤ n1) →
+    (length gates ≤ n1 → length gates ≤ n2) →
     IsSeenAt gates (last_wire (gate_at gates start)) n1 near → IsSeenAt gates (last_wire (gate_at gates start)) n2 far →
-    numbers ≡ numbers_where (is_admitting (number_of (kind_of (gate_at gates start))) near far) 1 rules → AreCandidates rules gates start reach numbers
-admitting_candidates rules gates start reach n1 n2 near far numbers sound seen near_seen far_seen first_next then_next near_is far_is are = record {
+    numbers ≡ numbers_where (is_admitting (number_of (kind_of (gate_at gates start))) near far) 1 rules → AreCandidates rules gates start looked numbers
+admitting_candidates rules gates start looked n1 n2 near far numbers sound marked near_seen far_seen first_next then_next past_both near_is far_is are = record {
   rise = λ i j less below.
       subst (λ (ns : List ℕ). (i j : ℕ) → i < j → j < length ns → get_or ns i 0 < get_or ns j 0) (sym are)
       (λ i j less below. numbers_rise (is_admitting (number_of (kind_of (gate_at gates start))) near far) 1 rules i j 0 less below) i j less below;
-  all = λ other alike redex is at.
-      subst (λ (ns : List ℕ). StandsAt ns redex.row) (sym (are ∙ ap (λ (g : Gate). numbers_where (is_admitting (number_of (kind_of g)) near far) 1 rules) (same_gate gates other reach alike start seen)))
+  all = λ other slots alike redex is at.
+      subst (λ (ns : List ℕ). StandsAt ns redex.row) (sym (are ∙ ap (λ (g : Gate). numbers_where (is_admitting (number_of (kind_of g)) near far) 1 rules) alike.first))
       (stands_where (is_admitting (number_of (kind_of (gate_at other start))) near far) rules redex.row is.row is.numbered
       (both_true (begins_here rules other start 0 redex is at) (admits_in other alike redex is at)));
 }
   where
-    admits_in : (other : List Gate) → BeginAlike reach gates other → (redex : RedexView) → (is : IsRedex rules other redex) → StartsAt start redex → admits is.row.pattern near far ≡ true
+    n1_behind : start < n1 + 1
+    n1_behind = (let ahead : start + 1 ≤ n1 = first_next.ahead in omega arith)
+
+    admits_in : (other : List Gate) → LookAlike start looked gates other → (redex : RedexView) → (is : IsRedex rules other redex) → StartsAt start redex → admits is.row.pattern near far ≡ true
     admits_in other alike redex is at =
-        let first = seen_alike near alike near_seen first_next near_is in
         row_admits rules other start n1 n2 near far sound redex is at
-        (subst (λ (g : Gate). IsNextOn other (last_wire g) (start + 1) n1) (same_gate gates other reach alike start seen) first.0)
-        (λ inside. subst (λ (g : Gate). IsNextOn other (last_wire g) (n1 + 1) n2) (same_gate gates other reach alike start seen) (then_other then_next inside))
-        (subst (λ (g : Gate). IsSeenAt other (last_wire g) n1 near) (same_gate gates other reach alike start seen) first.1)
-        (subst (λ (g : Gate). IsSeenAt other (last_wire g) n2 far) (same_gate gates other reach alike start seen) (far_other then_next))
+        (subst (λ (g : Gate). IsNextOn other (last_wire g) (start + 1) n1) alike.first (next_alike alike marked (omega arith) near_seen first_next))
+        (λ inside. subst (λ (g : Gate). IsNextOn other (last_wire g) (n1 + 1) n2) alike.first (then_other then_next inside))
+        (subst (λ (g : Gate). IsSeenAt other (last_wire g) n1 near) alike.first (seen_alike alike marked (omega arith) near_seen first_next near near_is))
+        (subst (λ (g : Gate). IsSeenAt other (last_wire g) n2 far) alike.first (far_other then_next))
       where
+        whole : length gates ≤ n1 → n1 < looked.reach ⊎ (length gates < looked.reach) → length gates < looked.reach
+        whole past (inl below) = omega arith
+        whole past (inr is) = is
+
         then_other : IsNextOn gates (last_wire (gate_at gates start)) (n1 + 1) n2 ⊎ (length gates ≤ n1) → n1 < length other → IsNextOn other (last_wire (gate_at gates start)) (n1 + 1) n2
-        then_other (inl next) inside = (seen_alike far alike far_seen next far_is).0
-        then_other (inr past) inside = absurd (shorter near_seen)
-          where
-            shorter : n1 < reach ⊎ (length gates < reach) → ⊥
-            shorter (inl below) = (let e = same_list gates other reach alike (omega arith) in let l : length gates ≡ length other = ap (λ (xs : List Gate). length xs) e in omega arith)
-            shorter (inr whole) = (let e = same_list gates other reach alike whole in let l : length gates ≡ length other = ap (λ (xs : List Gate). length xs) e in omega arith)
+        then_other (inl next) inside = next_alike alike marked n1_behind far_seen next
+        then_other (inr past) inside = absurd (let long = as_long alike (whole past near_seen) in omega arith)
 
         far_other : IsNextOn gates (last_wire (gate_at gates start)) (n1 + 1) n2 ⊎ (length gates ≤ n1) → IsSeenAt other (last_wire (gate_at gates start)) n2 far
-        far_other (inl next) = (seen_alike far alike far_seen next far_is).1
-        far_other (inr past) =
-            subst (λ (xs : List Gate). IsSeenAt xs (last_wire (gate_at gates start)) n2 far) (same_list gates other reach alike (whole near_seen)) far_is
-          where
-            whole : n1 < reach ⊎ (length gates < reach) → length gates < reach
-            whole (inl below) = omega arith
-            whole (inr is) = is
+        far_other (inl next) = seen_alike alike marked n1_behind far_seen next far far_is
+        far_other (inr past) = seen_past alike _ n2 far (whole past near_seen) (past_both past) far_is

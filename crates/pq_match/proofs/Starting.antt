@@ -1,18 +1,22 @@
 -- The first redex of a list, start by start; and what stays true of the starts before a rewriting.
-use Rattle.std.proofs.Common.{◌≡◌, ℕ, ◌+◌, ◌<◌, ◌≤◌, ◌⊎◌, inl, inr, List, ◌++◌, length, map, get_or, take, drop, refl, sym, ap, subst, ◌∙◌, arith, append_assoc}
+use Rattle.std.proofs.Common.{◌≡◌, ℕ, ◌+◌, ◌<◌, ◌≤◌, ◌⊎◌, inl, inr, List, ◌++◌, length, map, get_or, take, drop, sym, ap, subst, ◌∙◌, arith, append_assoc}
 use Rattle.std.specs.List.{AllPairs}
 use Rattle.std.proofs.lemmas.Bool.{cases_order}
 use Rattle.std.proofs.Common.{length-take}
-use Rattle.std.proofs.lemmas.List.{take-append-drop, take-append-le, take-take}
+use Rattle.std.proofs.lemmas.List.{get_or-take, take-append-drop, take-append-le, take-take}
 use Rattle.pq_gate.specs.declared.gate.Gate.{Gate}
+use Rattle.pq_gate.specs.declared.gate.Gate.TheVariants.{H}
 use Rattle.pq_rules.specs.Renaming.{renamed}
 use Rattle.pq_rules.specs.Row.{RowView}
 use Rattle.pq_match.specs.declared.redex.Redex.{Redex}
-use Rattle.pq_match.specs.Redex.{RedexView, IsRedex, HasNoRedex, last_place}
+use Rattle.pq_match.specs.Redex.{RedexView, IsRedex, HasNoRedex, last_place, gate_at}
 use Rattle.pq_match.specs.First.{Precedes, key, HasNoneAmong, HasNoneWithin}
 use Rattle.pq_match.specs.Found.{seen, IsFoundAmong, IsFirstFound}
 use Rattle.pq_match.specs.Rewrite.{unchosen, rewritten}
-use Rattle.pq_match.specs.Seek.{BeginAlike, HasNoneAlike, StartsAt, AreTried, AreKept, IsNoted}
+use Rattle.pq_links.specs.Slots.{AreSlots}
+use Rattle.pq_match.specs.declared.looked.Looked.{Looked}
+use Rattle.pq_match.specs.Seek.{BeginAlike, LookAlike, StartsAt, HasFailed, note_at, AreTried, AreKept, IsNoted}
+use Rattle.pq_match.proofs.LookingAlike.{looks_alike, alike_through}
 use Rattle.pq_match.proofs.OneFirst.{redex_within_all}
 use Rattle.pq_match.proofs.RewritingPlaces.{unchosen-append, unchosen_none, before_first, first_upto_last}
 
@@ -32,8 +36,9 @@ below_none_at {rules} {gates} {start} before none = record { none = λ redex is.
     by redex is upto (inr (inl less)) = absurd (omega arith)
     by redex is upto (inr (inr more)) = omega arith
 
-pub below_more : {rules : List RowView} {gates : List Gate} {start reach : ℕ} → NoneBelow rules gates start → HasNoneAlike (StartsAt start) rules gates reach → NoneBelow rules gates (start + 1)
-below_more {rules} {gates} before none = below_none_at before (none.none gates refl)
+pub below_more : {rules : List RowView} {gates : List Gate} {start : ℕ} {looked : Looked} → AreSlots gates → NoneBelow rules gates start → HasFailed rules gates start looked →
+    NoneBelow rules gates (start + 1)
+below_more {rules} {gates} slots before failed = below_none_at before (failed.none.none gates slots looks_alike)
 
 pub below_first : {rules : List RowView} {gates : List Gate} {start : ℕ} {redex : Redex} → NoneBelow rules gates start → IsFoundAmong (StartsAt start) rules gates redex →
     IsFirstFound rules gates (length gates) redex
@@ -74,13 +79,38 @@ below_all_none {rules} {gates} {start} before all redex is =
     let inside : get_or redex.places 0 0 < length gates = is.matches.inside 0 0 is.some in
     omega arith
 
--- A start that was tried and failed stays so while the gates that the search looked at stay.
-pub kept_alike : {P : RedexView → Type 0} {rules : List RowView} {old new : List Gate} {reach : ℕ} (first : ℕ) → BeginAlike first old new → reach ≤ first →
-    HasNoneAlike P rules old reach → HasNoneAlike P rules new reach
-kept_alike {P} {rules} {old} {new} {reach} first alike upto none = record {
-  none = λ other begins.
-      none.none other (sym (take-take reach first old upto) ∙ (ap (λ (xs : List Gate). take reach xs) alike ∙ take-take reach first new upto) ∙ begins);
+-- lists that begin alike look alike up to there
+begin_alike : {start first : ℕ} {looked : Looked} {old new : List Gate} → BeginAlike first old new → looked.reach ≤ first → start < looked.reach → LookAlike start looked old new
+begin_alike {start} {first} {looked} {old} {new} alike upto near = record {
+  long = λ p below. (λ inside. in_new p (omega arith) inside, λ inside. in_old p (omega arith) inside);
+  first = same_gate start (omega arith);
+  same = λ p w behind below marked uses. same_gate p (omega arith);
 }
+  where
+    same_gate : (p : ℕ) → p < first → gate_at old p ≡ gate_at new p
+    same_gate p below =
+        sym (get_or-take first old p (H 0) below) ∙ (ap (λ (xs : List Gate). get_or xs p (H 0)) alike ∙ get_or-take first new p (H 0) below)
+
+    as_long : length (take first old) ≡ length (take first new)
+    as_long = ap (λ (xs : List Gate). length xs) alike
+
+    in_new : (p : ℕ) → p < first → p < length old → p < length new
+    in_new p below inside = (let l = as_long in omega (arith, l, length-take first old, length-take first new))
+
+    in_old : (p : ℕ) → p < first → p < length new → p < length old
+    in_old p below inside = (let l = as_long in omega (arith, l, length-take first old, length-take first new))
+
+-- A start that failed stays so where the gates look alike that its search looked at,
+pub failed_alike : {rules : List RowView} {old new : List Gate} {start : ℕ} {looked : Looked} → LookAlike start looked old new → HasFailed rules old start looked → HasFailed rules new start looked
+failed_alike alike failed = record {
+  near = failed.near;
+  none = record { none = λ other slots then_alike. failed.none.none other slots (alike_through alike then_alike) };
+}
+
+-- so where these all stay,
+pub kept_alike : {rules : List RowView} {old new : List Gate} {start : ℕ} {looked : Looked} (first : ℕ) → BeginAlike first old new → looked.reach ≤ first → HasFailed rules old start looked →
+    HasFailed rules new start looked
+kept_alike first alike upto failed = failed_alike (begin_alike alike upto failed.near) failed
 
 -- the gates before the first chosen one stay
 pub front_kept : (gates replacement : List Gate) (redex : RedexView) → AllPairs (λ i j. i < j) redex.places → last_place redex.places < length gates →
@@ -103,32 +133,34 @@ front_kept gates replacement redex rising inside =
     ∙ take-take first first gates (omega arith)))
 
 -- what is known of starts stays known where what was looked at stays
-pub tried_kept : (rules : List RowView) (old new : List Gate) (before after : List ℕ) (first : ℕ) → BeginAlike first old new → AreKept first before after →
+pub tried_kept : (rules : List RowView) (old new : List Gate) (before after : List Looked) (first : ℕ) → BeginAlike first old new → AreKept first before after →
     AreTried rules old before → AreTried rules new after
-tried_kept rules old new before after first alike kept tried start below known =
-    let same = (kept.kept start below known).0 in
-    let near : get_or after start 0 ≤ first = (kept.kept start below known).1 in
-    let w : length after ≡ length before = kept.whole in
-    kept_alike first alike near
-    (subst (λ (r : ℕ). HasNoneAlike (StartsAt start) rules old r) (sym same) (tried start (omega arith) (omega arith)))
+tried_kept rules old new before after first alike kept tried = record { failed = failed }
+  where
+    failed : (start : ℕ) → start < length after → 0 < (note_at after start).reach → HasFailed rules new start (note_at after start)
+    failed start below known =
+        let same = (kept.kept start below known).0 in
+        let near : (note_at after start).reach ≤ first = (kept.kept start below known).1 in
+        let w : length after ≡ length before = kept.whole in
+        kept_alike first alike near
+        (subst (HasFailed rules old start) (sym same) (tried.failed start (omega arith) (subst (λ (l : Looked). 0 < l.reach) same known)))
 
 -- one start more
-pub tried_noted : {rules : List RowView} {gates : List Gate} {before after : List ℕ} {start reach : ℕ} → IsNoted start reach before after → HasNoneAlike (StartsAt start) rules gates reach →
+pub tried_noted : {rules : List RowView} {gates : List Gate} {before after : List Looked} {start : ℕ} {looked : Looked} → IsNoted start looked before after → HasFailed rules gates start looked →
     AreTried rules gates before → AreTried rules gates after
-tried_noted {rules} {gates} {before} {after} {start} {reach} noted none tried other below known = by (cases_order other start)
+tried_noted {rules} {gates} {before} {after} {start} {looked} noted failed tried = record { failed = λ other below known. at other below known (cases_order other start) }
   where
-    elsewhere : (other ≡ start → ⊥) → HasNoneAlike (StartsAt other) rules gates (get_or after other 0)
-    elsewhere differs =
-        let same : get_or after other 0 ≡ get_or before other 0 = noted.others other differs in
-        subst (λ (r : ℕ). HasNoneAlike (StartsAt other) rules gates r) (sym same) (tried other (noted.bound other below differs) (omega arith))
+    elsewhere : (other : ℕ) → other < length after → 0 < (note_at after other).reach → (other ≡ start → ⊥) → HasFailed rules gates other (note_at after other)
+    elsewhere other below known differs =
+        let same = noted.others other differs in
+        subst (HasFailed rules gates other) (sym same) (tried.failed other (noted.bound other below differs) (subst (λ (l : Looked). 0 < l.reach) same known))
 
-    by : (other ≡ start) ⊎ ((other < start) ⊎ (start < other)) → HasNoneAlike (StartsAt other) rules gates (get_or after other 0)
-    by (inl same) =
-        subst (λ (s : ℕ). HasNoneAlike (StartsAt s) rules gates (get_or after s 0)) (sym same) (subst (λ (r : ℕ). HasNoneAlike (StartsAt start) rules gates r) (sym noted.here) none)
-    by (inr (inl less)) = elsewhere (λ same. omega arith)
-    by (inr (inr more)) = elsewhere (λ same. omega arith)
+    at : (other : ℕ) → other < length after → 0 < (note_at after other).reach → (other ≡ start) ⊎ ((other < start) ⊎ (start < other)) → HasFailed rules gates other (note_at after other)
+    at other below known (inl same) = subst (λ (s : ℕ). HasFailed rules gates s (note_at after s)) (sym same) (subst (HasFailed rules gates start) (sym noted.here) failed)
+    at other below known (inr (inl less)) = elsewhere other below known (λ same. omega arith)
+    at other below known (inr (inr more)) = elsewhere other below known (λ same. omega arith)
 
 -- a start of which it is known
-pub known_none : (rules : List RowView) (gates : List Gate) (tried : List ℕ) (start : ℕ) → AreTried rules gates tried → start < length tried → 0 < get_or tried start 0 →
+pub known_none : (rules : List RowView) (gates : List Gate) (tried : List Looked) (start : ℕ) → AreSlots gates → AreTried rules gates tried → start < length tried → 0 < (note_at tried start).reach →
     HasNoneAmong (StartsAt start) rules gates
-known_none rules gates tried start are below known = (are start below known).none gates refl
+known_none rules gates tried start slots are below known = (are.failed start below known).none.none gates slots looks_alike

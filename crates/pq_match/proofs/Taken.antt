@@ -11,12 +11,12 @@ use Rattle.pq_links.specs.Slots.{free_slot, AreSlots}
 use Rattle.pq_links.proofs.Touching.{touching}
 use Rattle.pq_match.specs.Redex.{RedexView, IsRedex, gate_at}
 use Rattle.pq_match.specs.Search.{AreAlike, IsFitting, IsFull, AreEight}
-use Rattle.pq_match.specs.Seek.{IsTaken, BeginAlike, HasNoneAlike, StartsAt}
+use Rattle.pq_match.specs.declared.looked.Looked.{Looked}
+use Rattle.pq_match.specs.Seek.{IsTaken, HasNoneAlike, StartsAt}
 use Rattle.pq_match.proofs.Growing.{put_at}
 use Rattle.pq_match.proofs.OneFirst.{last_inside, row_sound}
 use Rattle.pq_match.proofs.SearchGates.{gate_on_wires}
 use Rattle.pq_match.proofs.SearchMatch.{match_full}
-use Rattle.pq_match.proofs.Seeking.{same_gate}
 
 -- a pattern's gate isn't a CX with one wire twice
 misfit_free : (n : ℕ) (gate : Gate) → IsOnWires n gate → kind_of free_slot ≡ kind_of gate → AreAlike gate gate free_slot free_slot → ⊥
@@ -46,15 +46,15 @@ place_taken {gates} {pattern} {places} {count} {place} slots on below are room i
     subst (λ (p : ℕ). IsTaken (gate_at gates p)) at (fitting_taken count slots on below (subst (λ (p : ℕ). p < length gates) (sym at) inside) fits)
 
 -- no redex begins at a free slot
-pub none_at_free : {rules : List RowView} {gates : List Gate} {start : ℕ} (reach : ℕ) → All IsSound rules → start < reach → gate_at gates start ≡ free_slot →
-    HasNoneAlike (StartsAt start) rules gates reach
-none_at_free {rules} {gates} {start} reach sound seen free = record { none = λ other alike. record { none = λ redex is at. never other alike redex is at } }
+pub none_at_free : {rules : List RowView} {gates : List Gate} {start : ℕ} (looked : Looked) → All IsSound rules → gate_at gates start ≡ free_slot →
+    HasNoneAlike (StartsAt start) rules gates start looked
+none_at_free {rules} {gates} {start} looked sound free = record { none = λ other slots alike. record { none = λ redex is at. never other alike.first redex is at } }
   where
-    never : (other : List Gate) → BeginAlike reach gates other → (redex : RedexView) → IsRedex rules other redex → StartsAt start redex → ⊥
-    never other alike redex is at =
+    never : (other : List Gate) → gate_at gates start ≡ gate_at other start → (redex : RedexView) → IsRedex rules other redex → StartsAt start redex → ⊥
+    never other same redex is at =
         let own : IsSound is.row = row_sound rules redex.row is.row is.numbered sound in
         let shorter : length is.row.replacement < length is.row.pattern = own.shortens.shorter in
         let full : IsFull other is.row.pattern (length other) redex.places =
         match_full is.row.wires other is.row.pattern redex.wires redex.places own.same.left is.wires is.matches is.free (length other) (last_inside (length other) redex.places is.matches.inside is.some) in
         fits_to_taken is.row.wires other is.row.pattern redex.places 0 own.same.left (omega arith) (full.fitting 0 (omega arith))
-        (ap (λ (p : ℕ). gate_at other p) at ∙ (sym (same_gate gates other reach alike start seen) ∙ free))
+        (ap (λ (p : ℕ). gate_at other p) at ∙ (sym same ∙ free))

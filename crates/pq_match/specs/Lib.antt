@@ -7,10 +7,14 @@ pub use Rattle.pq_rules.specs.Renaming
 pub use Rattle.pq_links.specs.Wires
 pub use Rattle.pq_links.specs.Places
 pub use Rattle.pq_links.specs.Links
+pub use Rattle.pq_links.specs.Slots
 pub mod Redex
 pub mod First
 pub mod Rewrite
 pub mod Found
 pub mod Seek
+pub mod Work
+pub mod Ties
 pub mod Segment
 pub mod Search
+pub mod Within

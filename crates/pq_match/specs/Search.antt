@@ -1,9 +1,9 @@
 -- What the search for the first redex goes by: the places of a pattern's gates, without the wires.
-use Rattle.std.specs.Prelude.{◌≡◌, ◌≢◌, ℕ, ◌<◌, ◌≤◌, ◌↔◌, Bool, true, false, List, [], ◌∷◌, length, slice_index, slice_index_or, Option, Some, None}
+use Rattle.std.specs.Prelude.{◌≡◌, ◌≢◌, ℕ, ◌<◌, ◌≤◌, ◌↔◌, Bool, List, length, slice_index, Option, Some, None}
 use Rattle.pq_limits.specs.declared.TheConstants.{MAX_ROW_GATES}
 use Rattle.pq_gate.specs.declared.gate.Gate.{Gate}
 use Rattle.pq_gate.specs.Commuting.{Touches, Commutes}
-use Rattle.pq_gate.specs.Kind.{kind_of, number_of}
+use Rattle.pq_gate.specs.Kind.{kind_of}
 use Rattle.pq_match.specs.Redex.{RedexView, gate_at, last_place}
 use Rattle.pq_match.specs.Wires.{wire_of}
 
@@ -39,12 +39,6 @@ AreClear gates places count end = (s place : ℕ) → s < count → IsPassed pla
 pub record IsNext (gates : List Gate) (places : List ℕ) (count place : ℕ) : Type 0 where
   pub above : (s : ℕ) → s < count → slice_index places s < place
   pub clear : AreClear gates places count place
-
--- A gate that the gate at the start may be moved up to, that shares a wire with it and lies before the end, is of one
--- of the kinds that are marked in `near`.
-abbrev pub HasKindsNear : List Gate → ℕ → ℕ → List Bool → Type 0
-HasKindsNear gates start end near = (place w : ℕ) → IsNext gates (start ∷ []) 1 place → place < end →
-    Touches (gate_at gates start) w → Touches (gate_at gates place) w → slice_index_or near (number_of (kind_of (gate_at gates place))) false ≡ true
 
 -- all of the first `count` gates commute with the gate at the place
 pub record IsPassable (gates : List Gate) (places : List ℕ) (count place : ℕ) : Type 0 where

@@ -4,7 +4,7 @@ ghost use Rattle.pq_gate.specs.Kind.{kind_of};
 ghost use Rattle.pq_links.specs.Wires.{wire_of};
 ghost use Rattle.pq_links.specs.Links.{IsNextOn};
 ghost use Rattle.pq_match.specs.Redex.{gate_at};
-ghost use Rattle.pq_match.specs.Seek.{AreLinkedSlots, IsTaken, AreAhead, HaveMovedOn, AreLedTo};
+ghost use Rattle.pq_match.specs.Seek.{AreLinkedSlots, IsTaken, IsAtCursor, AreAhead, HaveMovedOn, AreLedTo};
 
 use crate::search::are_of_one_kind;
 use pq_gate::Gate;
@@ -39,6 +39,7 @@ pub fn next_place(gates: &[Gate], cursors: &Cursors, free: bool, next: Gate, fro
     ensures behind { from ≤ result }
     ensures within { result ≤ length gates.now }
     ensures ahead { AreAhead result cursors.now }
+    ensures stands { free ≡ false → result < length gates.now → IsAtCursor result cursors.now }
     ensures kinds { (place : ℕ) → from ≤ place → place < result → free ≡ true → kind_of (gate_at gates.now place) ≡ kind_of next → ⊥ }
 {
     let least = cursors.next[0].min(cursors.next[1]).min(cursors.next[2]);
@@ -75,8 +76,7 @@ pub fn move_on(gates: &[Gate], next: &[Sides], cursors: &mut Cursors, place: u32
 {
     for wire in 0..3 {
         if cursors.next[wire] == place {
-            // a free slot has no next place, and no cursor stands there
-            cursors.next[wire] = next_on(gates, next, place, cursors.wires[wire]).max(place + 1);
+            cursors.next[wire] = next_on(gates, next, place, cursors.wires[wire]);
         }
     }
 }

@@ -2,17 +2,25 @@
 #![tactic(auto)]
 
 mod cursors;
+mod exchange;
 pub mod laws;
+mod looked;
 mod redex;
 mod rewrite;
 #[cfg(test)]
 mod rewriting_tests;
+mod runs;
 mod search;
 mod seek;
 mod segment;
+mod slots;
+mod spread;
 mod starts;
 #[cfg(test)]
 mod tests;
+mod ties;
+mod tried;
+mod work;
 
 pub use redex::Redex;
 pub use search::find_within;

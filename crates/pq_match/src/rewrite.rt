@@ -8,7 +8,6 @@ ghost use Rattle.pq_rules.specs.Row.{Uses};
 ghost use Rattle.pq_rules.specs.Renaming.{renamed};
 ghost use Rattle.pq_match.specs.Redex.{IsMatch, gate_at, last_place};
 ghost use Rattle.pq_match.specs.Rewrite.{unchosen, rewritten};
-ghost use Rattle.pq_match.specs.Seek.{AreTried, AreKept};
 ghost use Rattle.pq_match.specs.Found.{IsRedexOf, Rewrites};
 
 use crate::laws::rewriting_keeps_the_matrix;
@@ -32,27 +31,14 @@ impl Seg {
         ensures turn { result < 8 }
         ensures shorter { length self.new.items < length self.old.items }
         ensures room { self.new.room ≡ self.old.room }
-        ensures tried { AreTried rules.now self.old.items self.old.tried → AreTried rules.now self.new.items self.new.tried }
     {
         let row = rules.row(redex.row).unwrap();
         let places = &redex.places[..redex.count as usize];
         let left = rewrite(self.gates.as_mut_slice(), places, row);
         self.gates.truncate(left);
         self.links.build(self.gates.as_slice());
-        keep_tried(self.tried.as_mut_slice(), redex.places[0]);
         rewriting_keeps_the_matrix();
         row.phase()
-    }
-}
-
-/// Keeps what is known of the starts whose searches looked at no place from `first` on.
-fn keep_tried(tried: &mut [u32], first: u32)
-    ensures { AreKept first tried.old tried.new }
-{
-    for start in 0..tried.len() {
-        if tried[start] > first {
-            tried[start] = 0;
-        }
     }
 }
 
@@ -76,7 +62,7 @@ fn rewrite(gates: &mut [Gate], places: &[u32], row: &Row) -> usize
 }
 
 /// Where the wires of the pattern are led to by the gates at the places.
-fn read_wires(gates: &[Gate], places: &[u32], pattern: &[Gate]) -> [u32; ROW_WIRES]
+pub(crate) fn read_wires(gates: &[Gate], places: &[u32], pattern: &[Gate]) -> [u32; ROW_WIRES]
     requires count { length places.now ≡ length pattern.now }
     requires inside { All (λ place. place < length gates.now) places.now }
     requires on_wires { IsCircuit MAX_ROW_WIRES pattern.now }
@@ -140,7 +126,7 @@ fn put(gates: &mut [Gate], start: usize, replacement: &[Gate], wires: &[u32; ROW
 }
 
 /// The gate with its wires renamed.
-fn rename(gate: Gate, wires: &[u32; ROW_WIRES]) -> Gate
+pub(crate) fn rename(gate: Gate, wires: &[u32; ROW_WIRES]) -> Gate
     requires { IsOnWires MAX_ROW_WIRES gate }
     ensures { result ≡ renamed wires.now gate }
 {

@@ -3,12 +3,15 @@ ghost use Rattle.pq_gate.specs.Commuting.{Touches, Commutes};
 ghost use Rattle.pq_gate.specs.Kind.{kind_of, number_of};
 ghost use Rattle.pq_match.specs.Redex.{HasNoRedex, gate_at};
 ghost use Rattle.pq_match.specs.Found.{FindsAmong, FindsWithin, IsFirstFound};
-ghost use Rattle.pq_match.specs.Search.{AreApart, IsAlike, AreAlike, IsFitting, IsNext, HasKindsNear, IsPassable, IsGrown, FindsFull, AreEight, IsFrom, IsOfRow};
+ghost use Rattle.pq_match.specs.Search.{AreApart, IsAlike, AreAlike, IsFitting, IsNext, IsPassable, IsGrown, FindsFull, AreEight, IsFrom, IsOfRow};
+ghost use Rattle.pq_match.specs.Within.{IsNextWithin, IsSeenWithin, HasKindsNear};
+ghost use Rattle.pq_gate.specs.Ports.{first_wire};
 
 use crate::redex::Redex;
+use crate::seek::see;
 use pq_gate::{Gate, KINDS, commutes};
 use pq_limits::{MAX_GATES, MAX_ROW_GATES};
-use pq_rules::Rules;
+use pq_rules::{Rules, Seen};
 
 // how many numbers of kinds there are, as a length
 const KIND_NUMBERS: usize = KINDS as usize;
@@ -33,27 +36,65 @@ pub fn find_within(gates: &[Gate], rules: &Rules, span: u32) -> Option<Redex>
     None
 }
 
-// the first redex whose first place is the start and whose places all lie before the end
-#[tactic(auto, using(crate::proofs::SearchFrom::none_tried, crate::proofs::SearchFrom::tried_more, crate::proofs::SearchFrom::tried_first))]
+// The first redex whose first place is the start and whose places all lie before the end. The next two gates
+// before the end on the last wire of the gate at the start rule out most rows.
+#[tactic(auto, using(crate::proofs::SearchFrom::tried_more, crate::proofs::SearchFrom::tried_first, crate::proofs::SearchFrom::tried_all))]
 fn find_from(gates: &[Gate], rules: &Rules, start: u32, end: u32) -> Option<Redex>
     requires few { length gates.now ≤ MAX_GATES }
     requires start { start < end }
     requires end { end ≤ length gates.now }
     ensures { FindsAmong (IsFrom start end) rules.now gates.now result }
 {
-    let near = kinds_near(gates, start, end);
-    for number in rules.rows_starting(gates[start as usize]) {
-        if let Some(redex) = find_row(gates, rules, *number, start, end, &near) {
+    let gate = gates[start as usize];
+    let wire = gate.last_wire();
+    let next = next_behind(gates, wire, start, end);
+    let later = next_behind(gates, wire, next, end);
+    let near = see_within(gates, wire, next, end);
+    let far = see_within(gates, wire, later, end);
+    let numbers = rules.rows_admitting(gate, near, far);
+    if numbers.is_empty() {
+        return None;
+    }
+    let kinds = kinds_near(gates, start, end);
+    for number in numbers {
+        if let Some(redex) = find_row(gates, rules, *number, start, end, &kinds) {
             return Some(redex);
         }
     }
     None
 }
 
-// The kinds of the gates behind the start that share a wire with the gate there, up to the first that doesn't
-// commute with it. In a match that begins at the start, the next gate that shares a wire with the first is of
-// one of these kinds, so one pass rules out most rows.
-#[tactic(auto, using(crate::proofs::SearchNear::near_begins, crate::proofs::SearchNear::near_passes, crate::proofs::SearchNear::near_grows, crate::proofs::SearchNear::near_stops, crate::proofs::SearchNear::near_ends))]
+// the first place behind this one and before the end whose gate uses the wire, or the end
+fn next_behind(gates: &[Gate], wire: u32, place: u32, end: u32) -> u32
+    requires few { length gates.now ≤ MAX_GATES }
+    requires place { place ≤ end }
+    requires end { end ≤ length gates.now }
+    ensures next { place < end → IsNextWithin gates.now wire end (place + 1) result }
+    ensures within { result ≤ end }
+{
+    for later in place + 1..end {
+        if gates[later as usize].touches(wire) {
+            return later;
+        }
+    }
+    end
+}
+
+// what is seen at a place on a wire, where nothing is seen from the end on
+fn see_within(gates: &[Gate], wire: u32, place: u32, end: u32) -> Seen
+    requires end { end ≤ length gates.now }
+    ensures { IsSeenWithin gates.now wire end place result }
+{
+    if place < end {
+        see(gates, place, wire)
+    } else {
+        Seen::Nothing
+    }
+}
+
+// The kinds of the gates behind the start on the first wire of the gate there, up to the first of them that doesn't
+// commute with it. In a match that begins at the start, the next gate on that wire is of one of these kinds.
+#[tactic(auto, using(crate::proofs::SearchNear::near_begins, crate::proofs::SearchNear::near_passes, crate::proofs::SearchNear::near_stops_at, crate::proofs::SearchNear::near_ends))]
 fn kinds_near(gates: &[Gate], start: u32, end: u32) -> [bool; KIND_NUMBERS]
     requires few { length gates.now ≤ MAX_GATES }
     requires start { start < end }
@@ -61,10 +102,11 @@ fn kinds_near(gates: &[Gate], start: u32, end: u32) -> [bool; KIND_NUMBERS]
     ensures { HasKindsNear gates.now start end result }
 {
     let gate = gates[start as usize];
+    let wire = gate.first_wire();
     let mut near = [false; KIND_NUMBERS];
     for place in start + 1..end {
         let other = gates[place as usize];
-        if are_apart(gate, other) {
+        if !other.touches(wire) {
             continue;
         }
         near[kind(other)] = true;
@@ -108,16 +150,16 @@ fn find_row(
     })
 }
 
-// the number of the next gate that shares a wire with the pattern's first, or the length where there is none
+// the number of the next gate on the first wire of the pattern's first gate, or the length where there is none
 fn nearest_of(pattern: &[Gate]) -> usize
     requires { 0 < length pattern.now }
     ensures some { 0 < result }
-    ensures apart { (number : ℕ) → 0 < number → number < result → AreApart (gate_at pattern.now 0) (gate_at pattern.now number) }
-    ensures near { result < length pattern.now → ¬ AreApart (gate_at pattern.now 0) (gate_at pattern.now result) }
+    ensures others { (number : ℕ) → 0 < number → number < result → ¬ Touches (gate_at pattern.now number) (first_wire (gate_at pattern.now 0)) }
+    ensures uses { result < length pattern.now → Touches (gate_at pattern.now result) (first_wire (gate_at pattern.now 0)) }
 {
-    let first = pattern[0];
+    let wire = pattern[0].first_wire();
     for number in 1..pattern.len() {
-        if !are_apart(first, pattern[number]) {
+        if pattern[number].touches(wire) {
             return number;
         }
     }
@@ -249,7 +291,7 @@ fn use_wires(used: &mut [bool; 64], gate: Gate)
 }
 
 // whether the gate shares no wire with those before it
-pub(crate) fn stands_apart(pattern: &[Gate], number: usize) -> bool
+fn stands_apart(pattern: &[Gate], number: usize) -> bool
     requires { number < length pattern.now }
     ensures { IsTrue result ↔ ((before : ℕ) → before < number → AreApart (gate_at pattern.now before) (gate_at pattern.now number)) }
 {

@@ -1,5 +1,5 @@
-//! The search of one start along the wires, over slots with the next places on the wires. It says how far it looked:
-//! `reach` is more than each place that it looked at, and more than the number of slots where it came to their end.
+//! The search of one start along the wires, over slots with the next places on the wires. It says how far it looked
+//! and at which wires.
 
 ghost use Rattle.std.specs.Prelude.{◌≡◌, ◌≢◌, ℕ, ◌+◌, ◌-◌, ◌<◌, ◌≤◌, length, slice_index, slice_set, true, ◌⊎◌};
 ghost use Rattle.pq_gate.specs.Circuit.{IsCircuit};
@@ -7,29 +7,31 @@ ghost use Rattle.pq_gate.specs.Commuting.{Touches};
 ghost use Rattle.pq_links.specs.Links.{IsNextOn};
 ghost use Rattle.pq_match.specs.Redex.{gate_at};
 ghost use Rattle.pq_match.specs.Search.{IsNext, IsGrown, AreEight};
-ghost use Rattle.pq_match.specs.Seek.{AreLinkedSlots, AreCursors, AreAhead, SeeksFull, Seeks, StartsAt, IsRowAt, IsClear, IsSeenAt};
+ghost use Rattle.pq_match.specs.Seek.{AreLinkedSlots, LooksAtMore, AreLookedAt, IsKnownAt, AreMarked, AreCursors, AreAhead, SeeksFrom, SeeksFull, Seeks, IsRowAt, IsClear, IsSeenAt};
 
 use crate::cursors::{Cursors, lead_to, move_on, next_place};
+use crate::looked::Looked;
 use crate::redex::Redex;
-use crate::search::{are_of_one_kind, fits, is_passable, stands_apart};
+use crate::search::{are_of_one_kind, fits, is_passable};
+use crate::ties::tie;
 use pq_gate::{Gate, Ports};
 use pq_limits::MAX_ROW_GATES;
 use pq_links::{FAR, NO_WIRE, Sides, next_on};
 use pq_rules::{Rules, Seen, role_of};
 
-/// The first redex of the slots whose first place is the start, and how far the search looked.
+/// The first redex of the slots whose first place is the start, and what the search looked at, beside what is noted already.
 pub fn seek_from(
     gates: &[Gate],
     next: &[Sides],
     rules: &Rules,
     start: u32,
-    reach: &mut u32,
+    looked: &mut Looked,
 ) -> Option<Redex>
     requires linked { AreLinkedSlots gates.now next.now }
     requires start { start < length gates.now }
-    requires reach { start < reach.old }
-    ensures more { reach.old ≤ reach.new }
-    ensures finds { Seeks (StartsAt start) rules.now gates.now reach.new result }
+    requires reach { start < looked.old.reach }
+    ensures more { LooksAtMore looked.old looked.new }
+    ensures finds { SeeksFrom rules.now gates.now start looked.new result }
 {
     let gate = gates[start as usize];
     let wire = gate.last_wire();
@@ -42,9 +44,11 @@ pub fn seek_from(
     let one = see(gates, near, wire);
     let other = see(gates, far, wire);
     let count = gates.len() as u32;
-    *reach = (*reach).max(near.min(count) + 1).max(far.min(count) + 1);
+    looked.look_at(near.min(count));
+    looked.look_at(far.min(count));
+    looked.mark(wire);
     for number in rules.rows_admitting(gate, one, other) {
-        if let Some(redex) = seek_row(gates, next, rules, *number, start, reach) {
+        if let Some(redex) = seek_row(gates, next, rules, *number, start, looked) {
             return Some(redex);
         }
     }
@@ -67,7 +71,7 @@ fn place_behind(gates: &[Gate], next: &[Sides], place: u32, wire: u32) -> u32
 }
 
 // what is seen at a place on a wire
-fn see(gates: &[Gate], place: u32, wire: u32) -> Seen
+pub(crate) fn see(gates: &[Gate], place: u32, wire: u32) -> Seen
     ensures { IsSeenAt gates.now wire place result }
 {
     if (place as usize) >= gates.len() {
@@ -98,20 +102,20 @@ fn seek_row(
     rules: &Rules,
     number: u32,
     start: u32,
-    reach: &mut u32,
+    looked: &mut Looked,
 ) -> Option<Redex>
     requires linked { AreLinkedSlots gates.now next.now }
     requires start { start < length gates.now }
-    requires reach { start < reach.old }
-    ensures more { reach.old ≤ reach.new }
-    ensures finds { Seeks (IsRowAt number start) rules.now gates.now reach.new result }
+    requires reach { start < looked.old.reach }
+    ensures more { LooksAtMore looked.old looked.new }
+    ensures finds { Seeks (IsRowAt number start) rules.now gates.now start looked.new result }
 {
     let Some(row) = rules.row(number) else {
         return None;
     };
     let pattern = row.pattern();
     let cursors = Cursors::new();
-    let Some(places) = choose(gates, next, pattern, &[0; 8], 0, &cursors, start, reach) else {
+    let Some(places) = choose(gates, next, pattern, &[0; 8], 0, &cursors, start, looked) else {
         return None;
     };
     Some(Redex {
@@ -131,7 +135,7 @@ fn choose(
     count: usize,
     cursors: &Cursors,
     place: u32,
-    reach: &mut u32,
+    looked: &mut Looked,
 ) -> Option<[u32; 8]>
     requires linked { AreLinkedSlots gates.now next.now }
     requires short { length pattern.now ≤ MAX_ROW_GATES }
@@ -143,9 +147,12 @@ fn choose(
     requires eight { AreEight places.now count }
     requires cursors { AreCursors gates.now pattern.now places.now count place cursors.now }
     requires ahead { AreAhead place cursors.now }
-    requires reach { place < reach.old }
-    ensures more { reach.old ≤ reach.new }
-    ensures finds { SeeksFull gates.now pattern.now reach.new (slice_set places.now count place) (count + 1) result }
+    requires looked { AreLookedAt gates.now looked.old places.now count }
+    requires marked { AreMarked gates.now looked.old cursors.now }
+    requires near { place < looked.old.reach }
+    requires known { IsKnownAt gates.now (slice_index (slice_set places.now count place) 0) looked.old place }
+    ensures more { LooksAtMore looked.old looked.new }
+    ensures finds { SeeksFull gates.now pattern.now looked.new (slice_set places.now count place) (count + 1) result }
 {
     let mut grown = *places;
     grown[count] = place;
@@ -155,10 +162,11 @@ fn choose(
     if count + 1 == pattern.len() {
         return Some(grown);
     }
+    looked.mark_gate(gates[place as usize]);
     let mut moved = *cursors;
     move_on(gates, next, &mut moved, place);
     lead_to(gates, next, &mut moved, pattern[count], place);
-    seek(gates, next, pattern, &grown, count + 1, &moved, reach)
+    seek(gates, next, pattern, &grown, count + 1, &moved, looked)
 }
 
 // The same, where the kind of the gate is looked at first.
@@ -171,7 +179,7 @@ fn choose_by_kind(
     count: usize,
     cursors: &Cursors,
     place: u32,
-    reach: &mut u32,
+    looked: &mut Looked,
 ) -> Option<[u32; 8]>
     requires linked { AreLinkedSlots gates.now next.now }
     requires short { length pattern.now ≤ MAX_ROW_GATES }
@@ -183,14 +191,17 @@ fn choose_by_kind(
     requires eight { AreEight places.now count }
     requires cursors { AreCursors gates.now pattern.now places.now count place cursors.now }
     requires ahead { AreAhead place cursors.now }
-    requires reach { place < reach.old }
-    ensures more { reach.old ≤ reach.new }
-    ensures finds { SeeksFull gates.now pattern.now reach.new (slice_set places.now count place) (count + 1) result }
+    requires looked { AreLookedAt gates.now looked.old places.now count }
+    requires marked { AreMarked gates.now looked.old cursors.now }
+    requires near { place < looked.old.reach }
+    requires known { IsKnownAt gates.now (slice_index (slice_set places.now count place) 0) looked.old place }
+    ensures more { LooksAtMore looked.old looked.new }
+    ensures finds { SeeksFull gates.now pattern.now looked.new (slice_set places.now count place) (count + 1) result }
 {
     if !are_of_one_kind(gates[place as usize], pattern[count]) {
         return None;
     }
-    choose(gates, next, pattern, places, count, cursors, place, reach)
+    choose(gates, next, pattern, places, count, cursors, place, looked)
 }
 
 // Chooses the least places for the gates of the pattern that have none yet.
@@ -202,7 +213,7 @@ fn seek(
     places: &[u32; 8],
     count: usize,
     cursors: &Cursors,
-    reach: &mut u32,
+    looked: &mut Looked,
 ) -> Option<[u32; 8]>
     requires linked { AreLinkedSlots gates.now next.now }
     requires short { length pattern.now ≤ MAX_ROW_GATES }
@@ -213,17 +224,20 @@ fn seek(
     requires eight { AreEight places.now count }
     requires cursors { AreCursors gates.now pattern.now places.now count (slice_index places.now (count - 1) + 1) cursors.now }
     requires ahead { AreAhead (slice_index places.now (count - 1) + 1) cursors.now }
-    requires reach { slice_index places.now (count - 1) < reach.old }
-    ensures more { reach.old ≤ reach.new }
-    ensures finds { SeeksFull gates.now pattern.now reach.new places.now count result }
+    requires looked { AreLookedAt gates.now looked.old places.now count }
+    requires marked { AreMarked gates.now looked.old cursors.now }
+    ensures more { LooksAtMore looked.old looked.new }
+    ensures finds { SeeksFull gates.now pattern.now looked.new places.now count result }
 {
-    let free = stands_apart(pattern, count);
     let mut moved = *cursors;
+    let Some(free) = tie(gates, next, pattern, places, count, &mut moved, looked) else {
+        return None;
+    };
     let mut place = next_place(gates, &moved, free, pattern[count], places[count - 1] + 1);
-    *reach = (*reach).max(place + 1);
+    looked.look_at(place);
     'walk: while (place as usize) < gates.len() {
         if let Some(found) = choose_by_kind(
-            gates, next, pattern, places, count, &moved, place, reach,
+            gates, next, pattern, places, count, &moved, place, looked,
         ) {
             return Some(found);
         }
@@ -232,7 +246,7 @@ fn seek(
         }
         move_on(gates, next, &mut moved, place);
         place = next_place(gates, &moved, free, pattern[count], place + 1);
-        *reach = (*reach).max(place + 1);
+        looked.look_at(place);
     }
     None
 }

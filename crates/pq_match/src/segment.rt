@@ -3,6 +3,7 @@ ghost use Rattle.pq_gate.specs.Commuting.{Touches};
 ghost use Rattle.pq_match.specs.Redex.{gate_at};
 ghost use Rattle.pq_match.specs.Segment.{IsNextUse};
 
+use crate::slots::Slots;
 use pq_gate::Gate;
 use pq_limits::MAX_SEGMENT;
 use pq_links::Links;
@@ -18,24 +19,25 @@ pub struct Seg {
     pub(crate) gates: Vec<Gate>,
     pub(crate) links: Links,
 
-    // For starts from the first on: 0 where nothing is known, or how far a search looked that found no redex there.
-    pub(crate) tried: Vec<u32>,
+    // the slots, and whether the gates that it holds stand in them
+    pub(crate) work: Slots,
+    pub(crate) loaded: bool,
     pub(crate) asked: u32,
 }
 
 impl Model for Seg {
-    ghost use Rattle.std.specs.Prelude.{◌≤◌, vec_len, vec_capacity};
+    ghost use Rattle.std.specs.Prelude.{◌≡◌, ◌≤◌, vec_len, vec_capacity};
     ghost use Rattle.pq_limits.specs.declared.TheConstants.{MAX_SEGMENT};
-    ghost use Rattle.std.specs.Prelude.{◌≡◌};
     ghost use Rattle.pq_links.specs.Links.{AreLinked};
-    ghost use Rattle.pq_match.specs.Segment.{SegView, HasRoom};
+    ghost use Rattle.pq_match.specs.Segment.{SegView};
+    ghost use Rattle.pq_match.specs.Work.{HasRoom};
 
     ghost Value = { SegView };
 
-    ghost view = { λ a. record { items = a.gates.items; room = a.asked; tried = a.tried.items } };
+    ghost view = { λ a. record { items = a.gates.items; room = a.asked; work = a.work; loaded = a.loaded } };
 
-    ghost invariant = { λ a. HasRoom (vec_len a.gates) (vec_capacity a.gates) a.asked × HasRoom (vec_len a.tried) (vec_capacity a.tried) a.asked ×
-        (a.asked ≤ MAX_SEGMENT) × AreLinked a.gates.items a.links × (a.links.room ≡ a.asked) };
+    ghost invariant = { λ a. HasRoom (vec_len a.gates) (vec_capacity a.gates) a.asked × (a.asked ≤ MAX_SEGMENT) × AreLinked a.gates.items a.links ×
+        (a.links.room ≡ a.asked) × (a.work.room ≡ a.asked) };
 }
 
 impl Seg {
@@ -47,11 +49,12 @@ impl Seg {
     {
         let gates = Vec::with_capacity(alloc, room as usize)?;
         let links = Links::with_room(alloc, room)?;
-        let tried = Vec::with_capacity(alloc, room as usize)?;
+        let work = Slots::with_room(alloc, room)?;
         Ok(Seg {
             gates,
             links,
-            tried,
+            work,
+            loaded: false,
             asked: room,
         })
     }
@@ -70,7 +73,6 @@ impl Seg {
     {
         self.gates.clear();
         self.links.clear();
-        self.tried.clear();
     }
 
     /// Appends a gate.
@@ -81,7 +83,6 @@ impl Seg {
     {
         self.links.push(self.gates.as_slice(), gate);
         self.gates.push_reserved(gate);
-        self.tried.clear();
     }
 
     /// The least place behind this one whose gate uses the wire, None exactly where there is none. The gate at the

@@ -1,14 +1,16 @@
 -- The oracle's answers by one rewriting after another.
-use Rattle.std.proofs.Common.{◌≤◌, ◌↔◌, ◌≡◌, ℕ, ◌+◌, ◌%◌, ◌<◌, Bool, true, false, ◌||◌, List, length, refl, ap, ◌∙◌, subst, arith}
+use Rattle.std.proofs.Common.{◌≤◌, ◌↔◌, ◌≡◌, ℕ, ◌+◌, ◌%◌, ◌<◌, Bool, true, false, ◌||◌, List, length, refl, ap, sym, ◌∙◌, subst, arith}
+use Rattle.std.specs.Prelude.{All}
 use Rattle.pq_gate.specs.declared.gate.Gate.{Gate}
 use Rattle.pq_gate.specs.Circuit.{IsCircuit}
 use Rattle.pq_gate.specs.Matrix.{Same}
 use Rattle.pq_gate.proofs.SameLaws.{same_reflexive, same_transitive}
-use Rattle.pq_rules.specs.Row.{RowView}
+use Rattle.pq_rules.specs.Row.{RowView, IsSound}
 use Rattle.pq_match.specs.Redex.{RedexView, HasNoRedex}
 use Rattle.pq_match.specs.First.{IsFirst}
-use Rattle.pq_match.specs.Found.{seen, IsFirstFound, IsRedexOf, Rewrites}
-use Rattle.pq_match.specs.declared.redex.Redex.{Redex}
+use Rattle.pq_match.specs.Work.{IsFirstRewritten}
+use Rattle.pq_match.proofs.Moving.{rewriting_keeps, rewriting_shortens}
+use Rattle.pq_match.proofs.OneFirst.{row_sound}
 use Rattle.pq_oracle.specs.Outcomes.{answer_of}
 use Rattle.pq_oracle.proofs.Answering.{improved, unchanged}
 use Rattle.pq_match.specs.Rewrite.{rewritten}
@@ -79,27 +81,37 @@ pub record IsLed (rules : List RowView) (old now : List Gate) (so_far : Outcome)
   pub same : (n : ℕ) → IsCircuit n old → Same n old now so_far.phase
   pub shorter : length now ≤ length old
 
--- a redex that was found is one
-pub found_redex : (rules : List RowView) (gates : List Gate) (redex : Redex) → IsFirstFound rules gates (length gates) redex → IsRedexOf rules gates redex
-found_redex rules gates redex found = record { wires = found.wires; is = found.first.is; few = found.padded.few }
-
 -- before the first rewriting
 pub led_yet : (rules : List RowView) (gates : List Gate) → IsLed rules gates gates (record { improved = false; phase = 0 })
 led_yet rules gates = record { leads = none_yet rules gates; small = omega arith; same = λ n circuit. same_reflexive n gates circuit; shorter = omega arith }
 
--- one rewriting more, of the redex that was found
-pub led_on : (rules : List RowView) (old now new : List Gate) (so_far : Outcome) (redex : Redex) (phase : ℕ)
-    → IsLed rules old now so_far → IsFirstFound rules now (length now) redex → Rewrites rules now redex new phase
-    → ((n : ℕ) → IsCircuit n now → Same n now new phase) → length new < length now
-    → IsLed rules old new (record { improved = true; phase = (so_far.phase + phase) % 8 })
-led_on rules old now new so_far redex phase led found rewrites same shorter =
-    let done = rewrites found.wires found.first.is in
+-- one rewriting more, of the first redex
+pub led_on : (rules : List RowView) (old now new : List Gate) (so_far : Outcome) (phase : ℕ) → All IsSound rules
+    → IsLed rules old now so_far → IsFirstRewritten rules now new phase → IsLed rules old new (record { improved = true; phase = (so_far.phase + phase) % 8 })
+led_on rules old now new so_far phase sound led done =
+    let is = done.first.is in
+    let row : IsSound is.row = row_sound rules done.redex.row is.row is.numbered sound in
+    let short : length (rewritten now is.row.replacement done.redex) < length now = rewriting_shortens rules now done.redex is row in
+    let less : length new < length now = subst (λ (xs : List Gate). length xs < length now) (sym done.rewrites.gates) short in
     record {
-      leads = one_more rules old now new so_far (seen redex found.wires) found.first phase led.leads done.gates done.turn;
+      leads = one_more rules old now new so_far done.redex done.first phase led.leads done.rewrites.gates done.rewrites.turn;
       small = omega arith;
-      same = λ n circuit. (let here = led.same n circuit in same_transitive n so_far.phase phase old now new here (same n here.right));
-      shorter = omega (arith, shorter, led.shorter);
+      same = λ n circuit.
+          let here = led.same n circuit in
+          let kept : Same n now (rewritten now is.row.replacement done.redex) is.row.phase = rewriting_keeps rules now done.redex is n row here.right in
+          let there : Same n now new phase =
+          subst (λ (xs : List Gate). Same n now xs phase) (sym done.rewrites.gates)
+          (subst (λ (k : ℕ). Same n now (rewritten now is.row.replacement done.redex) k) (sym done.rewrites.turn) kept) in
+          same_transitive n so_far.phase phase old now new here there;
+      shorter = omega (arith, less, led.shorter);
     }
+
+-- it shortens the list
+pub first_shorter : (rules : List RowView) (now new : List Gate) (phase : ℕ) → All IsSound rules → IsFirstRewritten rules now new phase → length new < length now
+first_shorter rules now new phase sound done =
+    let is = done.first.is in
+    subst (λ (xs : List Gate). length xs < length now) (sym done.rewrites.gates)
+    (rewriting_shortens rules now done.redex is (row_sound rules done.redex.row is.row is.numbered sound))
 
 -- none was found any more
 pub led_oracle : (rules : List RowView) (old now : List Gate) (so_far : Outcome) → IsLed rules old now so_far

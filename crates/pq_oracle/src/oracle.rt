@@ -20,7 +20,7 @@ pub struct Outcome {
 
 /// Rewrites the first redex of a segment, again and again, until there is none: the segment becomes the
 /// oracle's answer to it. It takes no memory.
-#[tactic(auto, using(crate::proofs::Improving::found_redex, crate::proofs::Improving::led_yet, crate::proofs::Improving::led_on, crate::proofs::Improving::led_oracle))]
+#[tactic(auto, using(crate::proofs::Improving::led_yet, crate::proofs::Improving::led_on, crate::proofs::Improving::led_oracle, crate::proofs::Improving::led_unchanged, crate::proofs::Improving::led_improved, crate::proofs::Improving::first_shorter))]
 pub fn improve(rules: &Rules, seg: &mut Seg) -> Outcome
     ensures oracle { Ora rules.now seg.old.items (answer_of seg.new.items result) }
     ensures clean { HasNoRedex rules.now seg.new.items }
@@ -34,13 +34,14 @@ pub fn improve(rules: &Rules, seg: &mut Seg) -> Outcome
         improved: false,
         phase: 0,
     };
-    seg.forget();
-    'rewrites: while let Some(redex) = seg.find_on(rules) {
-        let phase = seg.apply(rules, &redex);
+    let _sound = rules.count();
+    seg.load();
+    'rewrites: while let Some(phase) = seg.rewrite_first(rules) {
         outcome = Outcome {
             improved: true,
             phase: (outcome.phase + phase) % 8,
         };
     }
+    seg.gather();
     outcome
 }

@@ -13,7 +13,7 @@ ghost use Rattle.pq_top.specs.Log.{Follows, LogsRounds, LogsText};
 ghost use Rattle.pq_generate.specs.Generated.{generated};
 ghost use Rattle.pq_text.specs.Print.{print};
 
-use pq_gate::Gate;
+use pq_gate::GateList;
 use pq_generate::generate;
 use pq_io::{ByteList, OutOfMemory};
 use pq_limits::MAX_GATES;
@@ -25,7 +25,8 @@ use pq_write::{ReportNumbers, write_program, write_report, write_with_report};
 use std::alloc::Global;
 use std::thread::Threads;
 
-/// The canonical text of a program with the gates that rounds leave of its own, and then the report. Omega is 2 to 1,024, and 1 to 64 workers make the rounds. The log takes the receipt of each round.
+/// The canonical text of a program with the gates that rounds leave of its own, and then the report. Omega is 2 to
+/// 1,024, and 1 to 64 workers make the rounds. The log takes the receipt of each round.
 #[tactic(auto, using(crate::proofs::Optimising::formed_with))]
 pub fn optimised<R: Threads + Sync, G: WorkGate>(
     rt: &R,
@@ -44,15 +45,7 @@ pub fn optimised<R: Threads + Sync, G: WorkGate>(
     ensures log_keeps { Follows log.old.items log.new.items }
 {
     let gates_in = program.gates.as_slice().len() as u64;
-    let finished = run_rounds(
-        rt,
-        alloc,
-        program.gates.as_slice(),
-        omega,
-        workers,
-        log,
-        gate,
-    )?;
+    let finished = run_rounds(rt, alloc, program.gates, omega, workers, log, gate)?;
     let report = report_on(gates_in, &finished);
     let program = Program {
         gates: finished.gates,
@@ -120,24 +113,17 @@ pub fn benched<R: Threads + Sync, G: WorkGate>(
 {
     let program = generate(alloc, seed, qubits, gates)?;
     let gates_in = program.gates.as_slice().len() as u64;
-    let finished = run_rounds(
-        rt,
-        alloc,
-        program.gates.as_slice(),
-        omega,
-        workers,
-        log,
-        gate,
-    )?;
+    let finished = run_rounds(rt, alloc, program.gates, omega, workers, log, gate)?;
     let report = report_on(gates_in, &finished);
     write_report(alloc, &report)
 }
 
-// Makes rounds under the built-in rules, from the first fingers until there is no finger, and logs their receipts.
+// Makes rounds under the built-in rules, from the first fingers until there is no finger, and logs their receipts. The
+// gates are let go before the first round.
 fn run_rounds<R: Threads + Sync, G: WorkGate>(
     rt: &R,
     alloc: Global,
-    gates: &[Gate],
+    gates: GateList,
     omega: u32,
     workers: u32,
     log: &mut Vec<Receipt>,
@@ -145,22 +131,23 @@ fn run_rounds<R: Threads + Sync, G: WorkGate>(
 ) -> Result<Finished, OutOfMemory>
     requires omega { IsOmega omega }
     requires workers { AreWorkers workers }
-    requires few { length gates.now ≤ MAX_GATES }
-    ensures opt { IfOk result (λ finished. IsEndOf builtin_rows omega gates.now finished) }
-    ensures same { IfOk result (λ finished. KeepsMatrix gates.now finished.gates.items finished.phase) }
+    requires few { length gates.items ≤ MAX_GATES }
+    ensures opt { IfOk result (λ finished. IsEndOf builtin_rows omega gates.items finished) }
+    ensures same { IfOk result (λ finished. KeepsMatrix gates.items finished.gates.items finished.phase) }
     ensures local { IfOk result (λ finished. Local builtin_rows omega finished.gates.items) }
-    ensures shorter { IfOk result (λ finished. length finished.gates.items ≤ length gates.now) }
+    ensures shorter { IfOk result (λ finished. length finished.gates.items ≤ length gates.items) }
     ensures bound { IfOk result (λ finished. finished.calls
-        ≤ length (first_fingers (length gates.now) omega) + 2 * (length gates.now - length finished.gates.items)) }
-    ensures first_fingers { IfOk result (λ finished. finished.first_fingers ≡ length (first_fingers (length gates.now) omega)) }
-    ensures log { OnOk result (LogsRounds omega gates.now log.old.items log.new.items) }
+        ≤ length (first_fingers (length gates.items) omega) + 2 * (length gates.items - length finished.gates.items)) }
+    ensures first_fingers { IfOk result (λ finished. finished.first_fingers ≡ length (first_fingers (length gates.items) omega)) }
+    ensures log { OnOk result (LogsRounds omega gates.items log.old.items log.new.items) }
     ensures log_keeps { Follows log.old.items log.new.items }
 {
     let rules = Rules::builtin(alloc)?;
 
     // its contract says that the rows are sound
     let _count = rules.count();
-    let mut looping = Loop::open(alloc, gates, omega, rules)?;
+    let mut looping = Loop::open(alloc, gates.as_slice(), omega, rules)?;
+    drop(gates);
     'rounds: while !looping.is_done() {
         let (next, _step, receipt) = looping.round(rt, alloc, workers, gate)?;
         log.push(receipt)?;

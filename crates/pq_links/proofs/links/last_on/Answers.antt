@@ -10,18 +10,18 @@ back-init c = back_starts c.args.wire _ (c.requires.heads (c.args.wire % length 
 pub back-preserved-then-first-buckets : goal.back-preserved-then-first-buckets
 back-preserved-then-first-buckets c =
     back_more (length c.args.heads.now) c.args.gates.now c.args.wire c.back.place _ c.requires.few c.back.invariant c.back-test.true
-    (uses_neither (gate_at c.args.gates.now c.back.place) c.args.wire _ _ c.wires_of-first.ensures.first c.wires_of-first.ensures.last c.if-first-wire.false c.if-second-wire.false)
+    (uses_neither (gate_at c.args.gates.now c.back.place) c.args.wire _ _ c.first_wire-first.ensures c.last_wire-second.ensures c.if-first-wire.false c.if-second-wire.false)
     (subst (λ k. IsLastIn (length c.args.heads.now) k c.args.gates.now c.back.place (side_at false c.args.before.now c.back.place))
-    (ap (λ w. w % length c.args.heads.now) (sym c.wires_of-first.ensures.first) ∙ c.if-first-buckets.true)
+    (ap (λ w. w % length c.args.heads.now) (sym c.first_wire-first.ensures) ∙ c.if-first-buckets.true)
     (c.requires.before c.back.place false c.back-test.true))
 
 pub back-preserved : goal.back-preserved
 back-preserved c =
     back_more (length c.args.heads.now) c.args.gates.now c.args.wire c.back.place _ c.requires.few c.back.invariant c.back-test.true
-    (uses_neither (gate_at c.args.gates.now c.back.place) c.args.wire _ _ c.wires_of-first.ensures.first c.wires_of-first.ensures.last c.if-first-wire.false c.if-second-wire.false)
+    (uses_neither (gate_at c.args.gates.now c.back.place) c.args.wire _ _ c.first_wire-first.ensures c.last_wire-second.ensures c.if-first-wire.false c.if-second-wire.false)
     (subst (λ k. IsLastIn (length c.args.heads.now) k c.args.gates.now c.back.place (side_at true c.args.before.now c.back.place))
     (other_side (length c.args.heads.now) (c.args.wire % length c.args.heads.now) (gate_at c.args.gates.now c.back.place) (c.back.invariant.«in» c.back-test.true)
-    (λ same. c.if-first-buckets.false (ap (λ w. w % length c.args.heads.now) c.wires_of-first.ensures.first ∙ same)))
+    (λ same. c.if-first-buckets.false (ap (λ w. w % length c.args.heads.now) c.first_wire-first.ensures ∙ same)))
     (c.requires.before c.back.place true c.back-test.true))
 
 pub back-smaller-then-first-buckets : goal.back-smaller-then-first-buckets

@@ -5,5 +5,5 @@ use Rattle.pq_loop.proofs.segments.jobs_of.Given as goal
 abbrev pub invariant-loop-gap : goal.invariant-loop-gap
 invariant-loop-gap l = record {
   jobs : JobsUpTo l.array l.omega l.gaps l.gap-index l.jobs;
-  capacity : vec_capacity l.places ≡ 2 * l.omega;
+  capacity : vec_capacity l.list ≡ 2 * l.omega;
 }

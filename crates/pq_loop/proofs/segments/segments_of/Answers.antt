@@ -29,11 +29,13 @@ picked c =
 
 pub jobs_of-requires-clause-apart : goal.jobs_of-requires-clause-apart
 jobs_of-requires-clause-apart c =
-    rw ((picked c).same, (picked c).gaps) (selected_far c.args.omega (map (rank c.args.array.now) c.args.fingers.now))
+    let p = picked (goal.at.jobs_of-requires-clause-apart c).After-as_slice-4 in
+    rw (p.same, p.gaps) (selected_far c.args.omega (map (rank c.args.array.now) c.args.fingers.now))
 
 pub jobs_of-requires-clause-inside : goal.jobs_of-requires-clause-inside
 jobs_of-requires-clause-inside c =
-    rw ((picked c).same, (picked c).gaps) (selected_inside c.args.array.now c.args.omega c.args.fingers.now)
+    let p = picked (goal.at.jobs_of-requires-clause-inside c).After-as_slice-4 in
+    rw (p.same, p.gaps) (selected_inside c.args.array.now c.args.omega c.args.fingers.now)
 
 pub returns-clause-segments : goal.returns-clause-segments
 returns-clause-segments c =

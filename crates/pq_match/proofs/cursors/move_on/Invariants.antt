@@ -9,7 +9,6 @@ abbrev pub invariant-loop-wire : goal.invariant-loop-wire
 invariant-loop-wire l = record {
   long : length l.cursors.next ≡ 3;
   wires : l.cursors.wires ≡ l.initial.cursors.wires;
-  ahead : (v : ℕ) → v < l.wire → slice_index l.initial.cursors.next v ≡ l.place → l.place + 1 ≤ slice_index l.cursors.next v;
   next : (v : ℕ) → v < l.wire → slice_index l.initial.cursors.next v ≡ l.place → slice_index l.initial.cursors.wires v ≢ no_wire → Touches (gate_at l.gates l.place) (slice_index l.initial.cursors.wires v) →
       IsNextOn l.gates (slice_index l.initial.cursors.wires v) (l.place + 1) (slice_index l.cursors.next v);
   others : (v : ℕ) → v < l.wire → slice_index l.initial.cursors.next v ≢ l.place → slice_index l.cursors.next v ≡ slice_index l.initial.cursors.next v;

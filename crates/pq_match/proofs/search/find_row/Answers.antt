@@ -11,7 +11,7 @@ returns-then-not-near-kind c =
     none_of_row c.args.rules.now c.args.gates.now c.args.number c.args.start c.args.end c.in-Some.row.now (sym c.in-Some.ensures.row) c.in-Some.ensures.sound
     (c.args.start ∷ []) refl (subst (λ (p : List Gate). HasNoFull c.args.gates.now p c.args.end (c.args.start ∷ []) 1) c.pattern-pattern.ensures.pattern
     (none_near c.args.gates.now c.pattern-pattern.result.now c.args.start c.args.end c.nearest_of-second.result c.args.near.now (c.args.start ∷ []) refl c.requires.near
-    c.nearest_of-second.ensures.some c.if-second-pattern.true c.nearest_of-second.ensures.apart (c.nearest_of-second.ensures.near c.if-second-pattern.true)
+    c.nearest_of-second.ensures.some c.if-second-pattern.true c.nearest_of-second.ensures.others (c.nearest_of-second.ensures.uses c.if-second-pattern.true)
     (subst (λ (k : ℕ). get_or c.args.near.now k false ≡ false) c.kind.ensures.kind c.if-not-near-kind.true)))
 
 pub returns-in_default-extend_at : goal.returns-in_default-extend_at

@@ -1,5 +1,6 @@
-use Rattle.std.proofs.Common.{◌+◌, ◌-◌, ◌*◌, ◌<◌, ◌≤◌, length}
-use Rattle.pq_match.specs.Seek.{AreCursors, AreAhead}
+use Rattle.std.proofs.Common.{◌≡◌, false, true, ◌+◌, ◌-◌, ◌*◌, ◌<◌, ◌≤◌, length}
+use Rattle.pq_match.specs.Seek.{MarksAll, LooksAtMore, AreLookedAt, IsAtCursor, AreCursors, AreMarked, AreAhead}
+use Rattle.pq_match.specs.Ties.{IsTiedBy}
 use Rattle.pq_match.proofs.Seeking.{IsWalkedAlike}
 use Rattle.pq_match.proofs.seek.+seeking.Given as goal
 
@@ -19,9 +20,14 @@ decreases-seek-walk l = length l.gates - l.place
 abbrev pub invariant-seek-walk : goal.invariant-seek-walk
 invariant-seek-walk l = record {
   within : l.place ≤ length l.gates;
-  seen : l.place < l.reach;
-  more : l.fn.reach ≤ l.reach;
+  seen : l.place < l.looked.reach;
+  more : LooksAtMore l.fn.looked l.looked;
+  looked_at : AreLookedAt l.gates l.looked l.places l.count;
+  marked : AreMarked l.gates l.looked l.moved;
+  wide : l.free ≡ true → MarksAll l.looked.mask;
+  tied : l.free ≡ false → IsTiedBy l.gates l.pattern l.looked l.places l.count l.place l.moved;
   ahead : AreAhead l.place l.moved;
+  stands : l.free ≡ false → l.place < length l.gates → IsAtCursor l.place l.moved;
   cursors : AreCursors l.gates l.pattern l.places l.count l.place l.moved;
-  walked : IsWalkedAlike l.gates l.pattern l.reach l.places l.count l.place;
+  walked : IsWalkedAlike l.gates l.pattern l.looked l.places l.count l.place;
 }

@@ -10,7 +10,7 @@ use Rattle.pq_match.proofs.seek.seek_row.Goals as goal
 pub returns-in_default-choose-clause-finds : goal.returns-in_default-choose-clause-finds
 returns-in_default-choose-clause-finds c =
     none_of_row_alike (c.args.start ∷ 0 ∷ 0 ∷ 0 ∷ 0 ∷ 0 ∷ 0 ∷ 0 ∷ []) (sym c.in-Some.ensures.row) c.in-Some.ensures.sound refl
-    (subst (λ (p : List Gate). HasNoFullAlike c.args.gates.now p c.choose.new.reach (c.args.start ∷ 0 ∷ 0 ∷ 0 ∷ 0 ∷ 0 ∷ 0 ∷ 0 ∷ []) 1) c.pattern-pattern.ensures.pattern c.in_default-choose.ensures.finds)
+    (subst (λ (p : List Gate). HasNoFullAlike c.args.gates.now p c.choose.new.looked (c.args.start ∷ 0 ∷ 0 ∷ 0 ∷ 0 ∷ 0 ∷ 0 ∷ 0 ∷ []) 1) c.pattern-pattern.ensures.pattern c.in_default-choose.ensures.finds)
 
 pub returns-clause-finds : goal.returns-clause-finds
 returns-clause-finds c =

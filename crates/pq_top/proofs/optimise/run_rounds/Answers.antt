@@ -1,8 +1,9 @@
-use Rattle.std.proofs.Common.{◌∙◌}
+use Rattle.std.proofs.Common.{◌∙◌, List, subst}
+use Rattle.pq_gate.specs.declared.gate.Gate.{Gate}
 use Rattle.std.specs.Prelude.{IfOk}
 use Rattle.std.proofs.lemmas.Result.{IfOk-weaker}
 use Rattle.pq_rules.specs.Table.{builtin_rows}
-use Rattle.pq_top.proofs.Leading.{first_on_its_way, next_on_its_way, some_finger}
+use Rattle.pq_top.proofs.Leading.{IsOnItsWay, first_on_its_way, next_on_its_way, some_finger}
 use Rattle.pq_top.proofs.Logging.{logging_follows, logged_at_end, on_ok, same_logging}
 use Rattle.pq_top.proofs.Optimising.{IsLeft, left_at_end}
 use Rattle.pq_top.proofs.optimise.run_rounds.Given.{Over}
@@ -11,19 +12,20 @@ use Rattle.pq_top.proofs.optimise.run_rounds.Goals as goal
 pub rounds-init : goal.rounds-init
 rounds-init g c =
     let made = c.in_ok-looping.ensures in
-    first_on_its_way builtin_rows c.args.omega c.args.gates.now c.args.log.now.items c.in_ok-looping.looping made.state made.omega
-    (made.rules ∙ c.in_ok-rules.ensures.rows) made.counts made.first_fingers
+    subst (λ (gates : List Gate). IsOnItsWay builtin_rows c.args.omega gates c.args.log.now.items c.in_ok-looping.looping c.args.log.now.items) c.as_slice.ensures
+    (first_on_its_way builtin_rows c.args.omega c.as_slice.result.now c.args.log.now.items c.in_ok-looping.looping made.state made.omega
+    (made.rules ∙ c.in_ok-rules.ensures.rows) made.counts made.first_fingers)
 
 pub rounds-preserved : goal.rounds-preserved
 rounds-preserved g c =
     let made = c.in_ok-next.ensures in
-    next_on_its_way builtin_rows c.args.omega c.args.gates.now c.rounds.looping c.in_ok-next.next c.in_ok-next._step c.in_ok-next.receipt _ c.rounds.log.items _ c.rounds.invariant
+    next_on_its_way builtin_rows c.args.omega c.args.gates.items c.rounds.looping c.in_ok-next.next c.in_ok-next._step c.in_ok-next.receipt _ c.rounds.log.items _ c.rounds.invariant
     (some_finger c.rounds.looping.state.fingers c.is_done.result c.rounds-test.true c.is_done.ensures.1) made.round made.settings made.rounds made.calls made.phase
     made.receipt c.in_ok-push.ensures.items
 
-left : (g : Over) (c : goal.After-finish g) → IfOk c.finish.result (λ finished. IsLeft c.args.omega c.args.gates.now finished)
+left : (g : Over) (c : goal.After-finish g) → IfOk c.finish.result (λ finished. IsLeft c.args.omega c.args.gates.items finished)
 left g c =
-    left_at_end c.finish.result c.in_ok-rules.rules c.args.omega c.args.gates.now _ _ c.rounds.looping c.requires.omega.least c.in_ok-rules.ensures.rows
+    left_at_end c.finish.result c.in_ok-rules.rules c.args.omega c.args.gates.items _ _ c.rounds.looping c.requires.omega.least c.in_ok-rules.ensures.rows
     c.count-count.ensures.sound c.rounds.invariant (c.is_done.ensures.0 c.rounds-test.false) c.finish.ensures.gates c.finish.ensures.counts
 
 pub returns-clause-opt : goal.returns-clause-opt

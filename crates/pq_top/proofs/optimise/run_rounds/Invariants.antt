@@ -4,7 +4,7 @@ use Rattle.pq_top.proofs.Leading.{IsOnItsWay}
 use Rattle.pq_top.proofs.optimise.run_rounds.Given as goal
 
 abbrev pub invariant-rounds : goal.invariant-rounds
-invariant-rounds g l = IsOnItsWay builtin_rows l.omega l.gates l.fn.log.items l.looping l.log.items
+invariant-rounds g l = IsOnItsWay builtin_rows l.omega l.fn.gates.items l.fn.log.items l.looping l.log.items
 
 -- each round lets the fingers and twice the gates fall
 abbrev pub decreases-rounds : goal.decreases-rounds

@@ -1,4 +1,6 @@
-use Rattle.std.proofs.Common.{arith}
+use Rattle.std.proofs.Common.{arith, length}
+use Rattle.pq_array.specs.Cells.{live}
+use Rattle.pq_loop.proofs.Compacting.{cells_left_le}
 use Rattle.pq_loop.proofs.Kept.{kept_of_view, after_of_view}
 use Rattle.pq_loop.proofs.looping.Loop.round.Goals as goal
 
@@ -6,12 +8,13 @@ pub overflow_add-after-2 : goal.overflow_add-after-2
 overflow_add-after-2 g c =
     omega (
       arith,
-      (kept_of_view c.self.invariant c.self.view_is c.requires.going c.in_ok-array.ensures.round c.in_ok-array.ensures.stand c.in_ok-array.ensures.size).bound,
+      (kept_of_view c.self.invariant c.self.view_is c.requires.going c.in_ok-array.ensures.round c.in_ok-array.ensures.stand (omega (arith, c.in_ok-array.ensures.cells, cells_left_le (length c.self.inside.array) (length (live c.in_ok-array.array))))).bound,
     )
 
 pub invariant_of-after : goal.invariant_of-after
 invariant_of-after g c =
-    kept_of_view c.self.invariant c.self.view_is c.requires.going c.in_ok-array.ensures.round c.in_ok-array.ensures.stand c.in_ok-array.ensures.size
+    kept_of_view c.self.invariant c.self.view_is c.requires.going c.in_ok-array.ensures.round c.in_ok-array.ensures.stand
+    (omega (arith, c.in_ok-array.ensures.cells, cells_left_le (length c.self.inside.array) (length (live c.in_ok-array.array))))
 
 pub returns-clause-same : goal.returns-clause-same
 returns-clause-same g c = (after_of_view c.self.invariant c.self.view_is c.requires.going c.in_ok-array.ensures.round).same

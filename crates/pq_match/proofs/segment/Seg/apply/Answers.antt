@@ -1,4 +1,4 @@
-use Rattle.std.proofs.Common.{◌≡◌, ℕ, ◌<◌, Some, List, length, length-take, get_or, take, sym, ap, ◌∙◌, subst, arith}
+use Rattle.std.proofs.Common.{◌≡◌, Some, List, take, sym, ap, ◌∙◌, subst, arith}
 use Rattle.std.specs.Option.{option_copied}
 use Rattle.pq_gate.specs.declared.gate.Gate.{Gate}
 use Rattle.pq_rules.specs.Row.{RowView, IsSound}
@@ -6,12 +6,6 @@ use Rattle.pq_match.specs.Redex.{IsMatch}
 use Rattle.pq_match.specs.Found.{seen}
 use Rattle.pq_match.specs.Rewrite.{rewritten}
 use Rattle.pq_match.proofs.Rewriting.{cut_front}
-use Rattle.std.proofs.lemmas.List.{get_or-take}
-use Rattle.pq_links.proofs.Pushing.{all_written}
-use Rattle.pq_match.specs.Segment.{SegView}
-use Rattle.pq_match.specs.Seek.{BeginAlike, AreKept}
-use Rattle.pq_match.proofs.OneFirst.{last_inside}
-use Rattle.pq_match.proofs.Starting.{front_kept, tried_kept}
 use Rattle.pq_match.proofs.segment.Seg.apply.Goals as goal
 
 pub returns-clause-rewrites : goal.returns-clause-rewrites
@@ -41,22 +35,3 @@ returns-clause-same c n circuit =
     let sound = subst IsSound row_is c.phase.ensures.sound in
     rw (done.gates, done.turn)
     (c.rewriting_keeps_the_matrix.ensures c.args.rules.now c.args.self.now.items (seen c.args.redex.now c.requires.wires) is n sound circuit)
-
-pub returns-clause-tried : goal.returns-clause-tried
-returns-clause-tried c tried =
-    let is = c.requires.is in
-    let done = returns-clause-rewrites c c.requires.wires is in
-    let redex = seen c.args.redex.now c.requires.wires in
-    let some : 0 < length (take c.args.redex.now.count c.args.redex.now.places) = is.some in
-    let first : get_or (take c.args.redex.now.count c.args.redex.now.places) 0 0 ≡ get_or c.args.redex.now.places 0 0 =
-    get_or-take c.args.redex.now.count c.args.redex.now.places 0 0 (omega (arith, length-take c.args.redex.now.count c.args.redex.now.places)) in
-    let alike = front_kept c.args.self.now.items is.row.replacement redex is.matches.rising (last_inside (length c.args.self.now.items) redex.places is.matches.inside is.some) in
-    let before : c.as_mut_slice-2.result.now ≡ c.args.self.now.tried = c.as_mut_slice-2.ensures.value ∙ ap (λ (v : SegView). v.tried) c.self.view_is in
-    let whole : length c.keep_tried.new.tried ≡ length c.as_mut_slice-2.result.now = c.keep_tried.ensures.whole in
-    tried_kept c.args.rules.now c.args.self.now.items _ c.args.self.now.tried _ (get_or c.args.redex.now.places 0 0)
-    (subst (λ (xs : List Gate). BeginAlike (get_or c.args.redex.now.places 0 0) c.args.self.now.items xs) (sym done.gates)
-    (subst (λ (p : ℕ). BeginAlike p c.args.self.now.items (rewritten c.args.self.now.items is.row.replacement redex)) first alike))
-    (subst (λ (xs : List ℕ). AreKept (get_or c.args.redex.now.places 0 0) c.args.self.now.tried xs)
-    (sym (all_written c.self.inside.tried.len c.keep_tried.new.tried c.self.inside.tried.items (omega (arith, whole, ap (λ (xs : List ℕ). length xs) c.as_mut_slice-2.ensures.value))))
-    (subst (λ (xs : List ℕ). AreKept (get_or c.args.redex.now.places 0 0) xs c.keep_tried.new.tried) before c.keep_tried.ensures))
-    tried

@@ -1,0 +1,70 @@
+-- Gates spread over slots, and written back.
+use Rattle.std.proofs.Common.{◌≡◌, ℕ, zero, suc, ◌+◌, ◌*◌, ◌<◌, ◌≤◌, Bool, true, false, cond, List, [], ◌∷◌, ◌++◌, length, get_or, take, drop, refl, ap, sym, subst, ◌∙◌, arith}
+use Rattle.std.proofs.lemmas.Bool.{ne_eqb}
+use Rattle.std.proofs.lemmas.List.{take_more, append-nil, length-append, take-append-drop}
+use Rattle.pq_gate.specs.declared.gate.Gate.{Gate}
+use Rattle.pq_gate.specs.Commuting.{Touches}
+use Rattle.pq_gate.specs.Ports.{first_wire}
+use Rattle.pq_gate.proofs.WireLaws.{touches_first}
+use Rattle.pq_links.specs.Slots.{no_wire, free_slot, is_free, AreSlots, gates_in, spread}
+use Rattle.pq_match.specs.Work.{AreTaken}
+use Rattle.pq_match.proofs.RankedRewriting.{gates_in-append}
+
+taken_gate : (gate : Gate) → ¬ Touches gate no_wire → is_free gate ≡ false
+taken_gate gate apart = ne_eqb (first_wire gate) no_wire (λ same. apart (subst (Touches gate) same (touches_first gate)))
+
+-- what was spread is held
+pub spread_gates : (gates : List Gate) → AreTaken gates → gates_in (spread gates) ≡ gates
+spread_gates [] taken = refl
+spread_gates (gate ∷ gates) taken =
+    ap (λ (b : Bool). cond b (gates_in (spread gates)) (gate ∷ gates_in (spread gates))) (taken_gate gate (taken 0 (omega arith)))
+    ∙ ap (λ (rest : List Gate). gate ∷ rest) (spread_gates gates (λ p below. taken (suc p) (omega arith)))
+
+pub spread_slots : (gates : List Gate) → AreTaken gates → AreSlots (spread gates)
+spread_slots [] taken p below touches = absurd (omega arith)
+spread_slots (gate ∷ gates) taken zero below touches = absurd (taken 0 (omega arith) touches)
+spread_slots (gate ∷ gates) taken (suc zero) below touches = refl
+spread_slots (gate ∷ gates) taken (suc (suc p)) below touches = spread_slots gates (λ q q_below. taken (suc q) (omega arith)) p (omega arith) touches
+
+pub spread_long : (gates : List Gate) → length (spread gates) ≡ 2 * length gates
+spread_long [] = refl
+spread_long (gate ∷ gates) = omega (arith, spread_long gates)
+
+pub spread_few : (gates : List Gate) → AreTaken gates → length (gates_in (spread gates)) ≡ length gates
+spread_few gates taken = ap (λ (xs : List Gate). length xs) (spread_gates gates taken)
+
+spread-append : (xs ys : List Gate) → spread (xs ++ ys) ≡ spread xs ++ spread ys
+spread-append [] ys = refl
+spread-append (gate ∷ xs) ys = ap (λ (rest : List Gate). gate ∷ free_slot ∷ rest) (spread-append xs ys)
+
+-- one gate more
+pub spread_more : (gates : List Gate) (i : ℕ) (d : Gate) → i < length gates → spread (take (i + 1) gates) ≡ (spread (take i gates) ++ get_or gates i d ∷ []) ++ free_slot ∷ []
+spread_more gates i d inside =
+    ap spread (take_more gates i d inside) ∙ spread-append (take i gates) (get_or gates i d ∷ []) ∙ split (spread (take i gates)) (get_or gates i d)
+  where
+    split : (xs : List Gate) (gate : Gate) → xs ++ gate ∷ free_slot ∷ [] ≡ (xs ++ gate ∷ []) ++ free_slot ∷ []
+    split [] gate = refl
+    split (x ∷ xs) gate = ap (λ (rest : List Gate). x ∷ rest) (split xs gate)
+
+-- one slot more is written
+pub written_more : (slots : List Gate) (i : ℕ) (d : Gate) → i < length slots → gates_in (take (i + 1) slots) ≡ gates_in (take i slots) ++ cond (is_free (get_or slots i d)) [] (get_or slots i d ∷ [])
+written_more slots i d inside = ap gates_in (take_more slots i d inside) ∙ gates_in-append (take i slots) (get_or slots i d ∷ [])
+
+pub written_free : (slots : List Gate) (i : ℕ) (d : Gate) → i < length slots → is_free (get_or slots i d) ≡ true → gates_in (take (i + 1) slots) ≡ gates_in (take i slots)
+written_free slots i d inside free =
+    written_more slots i d inside ∙ ap (λ (b : Bool). gates_in (take i slots) ++ cond b [] (get_or slots i d ∷ [])) free ∙ append-nil (gates_in (take i slots))
+
+pub written_taken : (slots : List Gate) (i : ℕ) (d : Gate) → i < length slots → is_free (get_or slots i d) ≡ false → gates_in (take (i + 1) slots) ≡ gates_in (take i slots) ++ get_or slots i d ∷ []
+written_taken slots i d inside taken =
+    written_more slots i d inside ∙ ap (λ (b : Bool). gates_in (take i slots) ++ cond b [] (get_or slots i d ∷ [])) taken
+
+-- a front holds no more than the whole
+pub written_few : (slots : List Gate) (i : ℕ) → length (gates_in (take i slots)) ≤ length (gates_in slots)
+written_few slots i =
+    let whole : gates_in slots ≡ gates_in (take i slots) ++ gates_in (drop i slots) =
+    ap gates_in (sym (take-append-drop i slots)) ∙ gates_in-append (take i slots) (drop i slots) in
+    omega (arith, length-append (gates_in (take i slots)) (gates_in (drop i slots)), ap (λ (xs : List Gate). length xs) whole)
+
+pub written_room : (slots : List Gate) (i : ℕ) (d : Gate) → i < length slots → is_free (get_or slots i d) ≡ false → length (gates_in (take i slots)) < length (gates_in slots)
+written_room slots i d inside taken =
+    omega (arith, written_few slots (i + 1), ap (λ (xs : List Gate). length xs) (written_taken slots i d inside taken), length-append (gates_in (take i slots)) (get_or slots i d ∷ []))

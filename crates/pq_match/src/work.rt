@@ -1,0 +1,86 @@
+//! Rewriting the first redex of a segment again and again, in slots.
+
+ghost use Rattle.std.specs.Prelude.{◌≡◌, false, length, IfSome, IfNone};
+ghost use Rattle.pq_match.specs.Redex.{HasNoRedex};
+ghost use Rattle.pq_match.specs.Segment.{held, IsKnown};
+ghost use Rattle.pq_match.specs.Work.{IsFirstRewritten};
+
+use crate::segment::Seg;
+use crate::starts::{are_taken, find_first};
+use pq_rules::Rules;
+
+impl Seg {
+    /// Spreads the gates over slots, where gates leave and come without moving others. Nothing is known of starts. It
+    /// takes no memory.
+    #[tactic(auto, using(crate::proofs::Spreading::spread_gates))]
+    pub fn load(&mut self)
+        ensures held { held self.new ≡ self.old.items }
+        ensures known { length self.new.work.tried ≡ 0 }
+        ensures items { self.new.items ≡ self.old.items }
+        ensures room { self.new.room ≡ self.old.room }
+    {
+        let gates = self.gates.as_slice();
+        self.loaded = are_taken(gates);
+        if self.loaded {
+            self.work.load(gates, &self.links);
+        } else {
+            self.work.forget();
+        }
+    }
+
+    /// Closes up the gates in the slots: they become the segment's. It takes no memory.
+    pub fn gather(&mut self)
+        ensures items { self.new.items ≡ held self.old }
+        ensures held { held self.new ≡ held self.old }
+        ensures closed { self.new.loaded ≡ false }
+        ensures work { self.new.work ≡ self.old.work }
+        ensures room { self.new.room ≡ self.old.room }
+    {
+        if self.loaded {
+            self.work.write(&mut self.gates);
+            self.links.build(self.gates.as_slice());
+            self.loaded = false;
+        }
+    }
+
+    /// Rewrites the first redex of the gates that are held. Answers the phase of its row, and None exactly where there is
+    /// no redex. It takes no memory.
+    pub fn rewrite_first(&mut self, rules: &Rules) -> Option<u8>
+        requires known { IsKnown rules.now self.old }
+        ensures none { IfNone result (HasNoRedex rules.now (held self.old)) }
+        ensures same { IfNone result (held self.new ≡ held self.old) }
+        ensures first { IfSome result (λ phase. IsFirstRewritten rules.now (held self.old) (held self.new) phase) }
+        ensures known { IsKnown rules.now self.new }
+        ensures room { self.new.room ≡ self.old.room }
+    {
+        if !self.loaded {
+            return self.rewrite_closed(rules);
+        }
+        let Some(redex) = self.work.find(rules) else {
+            return None;
+        };
+        if let Some(phase) = self.work.rewrite(rules, &redex) {
+            return Some(phase);
+        }
+        self.gather();
+        self.rewrite_closed(rules)
+    }
+
+    // the same, where the gates are closed up
+    fn rewrite_closed(&mut self, rules: &Rules) -> Option<u8>
+        requires closed { self.old.loaded ≡ false }
+        requires known { IsKnown rules.now self.old }
+        ensures none { IfNone result (HasNoRedex rules.now (held self.old)) }
+        ensures same { IfNone result (held self.new ≡ held self.old) }
+        ensures first { IfSome result (λ phase. IsFirstRewritten rules.now (held self.old) (held self.new) phase) }
+        ensures known { IsKnown rules.now self.new }
+        ensures room { self.new.room ≡ self.old.room }
+    {
+        let Some(redex) = find_first(self, rules) else {
+            return None;
+        };
+        let phase = self.apply(rules, &redex);
+        self.load();
+        Some(phase)
+    }
+}
