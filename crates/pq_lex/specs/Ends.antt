@@ -1,5 +1,5 @@
 -- Where a text surely ends with a token, whatever follows it.
-use Rattle.std.specs.Prelude.{◌≡◌, ◌⊎◌, ℕ, ◌+◌, ◌≤◌, Bool, true, false, ◌==◌, List, [], ◌∷◌, length, if◌then◌else◌}
+use Rattle.std.specs.Prelude.{◌≡◌, ◌⊎◌, ℕ, ◌+◌, ◌<◌, ◌≤◌, Bool, true, false, ◌==◌, List, [], ◌∷◌, length, take, if◌then◌else◌}
 use Rattle.pq_lex.specs.declared.ends.Mode.{Mode}
 use Rattle.pq_lex.specs.declared.ends.Mode.TheVariants.{Code, AfterSlash, Comment, Quote}
 use Rattle.pq_lex.specs.declared.token.Form.TheVariants.{Semicolon, Missing, Malformed}
@@ -32,6 +32,12 @@ IsEnded m (b ∷ c ∷ rest) = IsEnded (after_byte m b) (c ∷ rest)
 -- the last end after a byte: behind it, where it is an end, else where it was
 abbrev pub EndsAt : ℕ → ℕ → Mode → ℕ → ℕ → Type 0
 EndsAt behind b mode old new = ((new ≡ behind) × (b ≡ 59) × (mode ≡ Code)) ⊎ ((new ≡ old) × (b ≡ 59 → mode ≡ Code → ⊥))
+
+-- Of the first so many bytes of a text that begins in a mode, the last end is this one, 0 where there is none.
+pub record EndsLast (m : Mode) (text : List ℕ) (count upto : ℕ) : Type 0 where
+  pub ended : 1 ≤ count → IsEnded m (take count text)
+  pub within : count ≤ upto
+  pub last : (k : ℕ) → count ≤ k → k < upto → IsEnded m (take (k + 1) text) → ⊥
 
 -- the tokens of a text, where others follow in place of its end
 abbrev pub spliced : List TokenView → List TokenView → List TokenView

@@ -1,5 +1,5 @@
-ghost use Rattle.std.specs.Prelude.{◌≡◌, ℕ, ◌+◌, ◌^◌, ◌<◌, ◌≤◌, true, false, length, take};
-ghost use Rattle.pq_lex.specs.Ends.{after_code, after_byte, mode_after, IsEnded, EndsAt};
+ghost use Rattle.std.specs.Prelude.{◌≡◌, ℕ, ◌+◌, ◌-◌, ◌^◌, ◌<◌, ◌≤◌, true, false, length, take, slice_index};
+ghost use Rattle.pq_lex.specs.Ends.{after_code, after_byte, mode_after, IsEnded, EndsAt, EndsLast};
 ghost use Rattle.pq_lex.specs.declared.ends.Mode.TheVariants.{Code};
 
 /// What the next byte of a text is read as.
@@ -92,11 +92,9 @@ impl Ended {
     }
 }
 
-/// Where the last `;` of a text ends that is a token whatever follows, and the mode behind the text.
-pub fn last_end(mode: Mode, text: &[u8]) -> Ended
-    ensures ended { 1 ≤ result.count → IsEnded mode (take result.count text.now) }
-    ensures within { result.count ≤ length text.now }
-    ensures last { (k : ℕ) → result.count ≤ k → k < length text.now → ¬ IsEnded mode (take (k + 1) text.now) }
+// The same for bytes one after another.
+fn ended_in(mode: Mode, text: &[u8]) -> Ended
+    ensures last { EndsLast mode text.now result.count (length text.now) }
     ensures mode { result.mode ≡ mode_after mode text.now }
 {
     let mut found = Ended { count: 0, mode };
@@ -104,4 +102,63 @@ pub fn last_end(mode: Mode, text: &[u8]) -> Ended
         found = found.more(i, *byte);
     }
     found
+}
+
+// How many bytes stand before the last line, which may be empty.
+fn before_line(text: &[u8]) -> usize
+    ensures within { result ≤ length text.now }
+    ensures newline { 1 ≤ result → slice_index text.now (result - 1) ≡ 10 }
+{
+    let mut left = text.len();
+    'bytes: while left > 0 && text[left - 1] != b'\n' {
+        left -= 1;
+    }
+    left
+}
+
+// The mode at the front of a line: a newline ends comments and quoted texts.
+fn mode_at(mode: Mode, start: usize) -> Mode
+    ensures first { start ≡ 0 → result ≡ mode }
+    ensures other { 1 ≤ start → result ≡ Code }
+{
+    if start == 0 { mode } else { Mode::Code }
+}
+
+// Where the last `;` ends of a text that ends with a newline, by its lines from the last one on.
+fn last_in_lines(mode: Mode, text: &[u8]) -> usize
+    ensures { EndsLast mode text.now result (length text.now) }
+{
+    let mut left = text.len();
+    'lines: while left > 0 {
+        let start = before_line(&text[..left - 1]);
+        let line = ended_in(mode_at(mode, start), &text[start..left]);
+        if line.count > 0 {
+            return start + line.count;
+        }
+        left = start;
+    }
+    0
+}
+
+/// Where the last `;` of a text ends that is a token whatever follows, and the mode behind the text. It is looked
+/// for line by line from the end of the text.
+pub fn last_end(mode: Mode, text: &[u8]) -> Ended
+    ensures ended { 1 ≤ result.count → IsEnded mode (take result.count text.now) }
+    ensures within { result.count ≤ length text.now }
+    ensures last { (k : ℕ) → result.count ≤ k → k < length text.now → ¬ IsEnded mode (take (k + 1) text.now) }
+    ensures mode { result.mode ≡ mode_after mode text.now }
+{
+    let start = before_line(text);
+    let line = ended_in(mode_at(mode, start), &text[start..]);
+    if line.count > 0 {
+        Ended {
+            count: start + line.count,
+            mode: line.mode,
+        }
+    } else {
+        Ended {
+            count: last_in_lines(mode, &text[..start]),
+            mode: line.mode,
+        }
+    }
 }

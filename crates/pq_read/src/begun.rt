@@ -127,6 +127,7 @@ fn read_front(
 }
 
 /// Reads what is begun with a piece behind it, as far as statements are finished, and answers what is begun then.
+#[tactic(auto, using(crate::proofs::Beginning::begun_grown, crate::proofs::Beginning::front_ended))]
 pub fn read_piece(
     alloc: Global,
     draft: &mut Draft,

@@ -1,17 +1,8 @@
 use Rattle.std.proofs.Common.{◌≤◌, arith}
 use Rattle.std.proofs.lemmas.Result.{err_from_is_err_and}
 use Rattle.pq_read.specs.Drafts.{env_of}
-use Rattle.pq_read.proofs.Beginning.{begun_grown, front_ended, front_fails, piece_leads, begun_behind}
+use Rattle.pq_read.proofs.Beginning.{front_fails, piece_leads, begun_behind}
 use Rattle.pq_read.proofs.begun.read_piece.Goals as goal
-
-pub returns-in-Ok-clause-begun : goal.returns-in-Ok-clause-begun
-returns-in-Ok-clause-begun c =
-    begun_grown c.args.begun c.in-Ok.begun c.args.piece.now c.last_end-ended.result.mode c.requires.column c.requires.mode c.in-Ok.ensures.settled c.in-Ok.ensures.mode c.last_end-ended.ensures.mode
-
-pub read_front-requires-clause-ended : goal.read_front-requires-clause-ended
-read_front-requires-clause-ended c =
-    let some : 1 ≤ c.last_end-ended.result.count = grind arith in
-    front_ended c.args.begun c.args.piece.now c.split_at.result.0.now c.last_end-ended.result.count c.requires.mode c.split_at.ensures.front (c.last_end-ended.ensures.ended some)
 
 pub returns-in_err-line-clause-fails : goal.returns-in_err-line-clause-fails
 returns-in_err-line-clause-fails c =

@@ -1,6 +1,6 @@
 use Rattle.std.proofs.Common.{◌≡◌, ℕ, ◌+◌, ◌<◌, ◌≤◌, take}
 use Rattle.pq_lex.specs.Ends.{mode_after, IsEnded}
-use Rattle.pq_lex.proofs.ends.last_end.Given as goal
+use Rattle.pq_lex.proofs.ends.ended_in.Given as goal
 
 abbrev pub invariant-loop-i : goal.invariant-loop-i
 invariant-loop-i l = record {
