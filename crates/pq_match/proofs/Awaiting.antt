@@ -11,7 +11,7 @@ use Rattle.pq_links.specs.Slots.{no_wire}
 use Rattle.pq_links.proofs.Touching.{touched, touching}
 use Rattle.pq_match.specs.Redex.{gate_at, is_chosen, last_place}
 use Rattle.pq_match.proofs.RankedRedexes.{is_chosen_at}
-use Rattle.pq_match.specs.Waiting.{StartsView, HasNumber, IsWaiting, IsNotedFailed, noted, IsSameOf, WaitMore, AreWoken}
+use Rattle.pq_match.specs.Waiting.{StartsView, HasNumber, IsWaiting, IsNotedFailed, IsSameOf, WaitMore, AreWoken}
 use Rattle.pq_match.specs.Settled.{IsUsedAt, TwoBetween, TwoStandBefore, AwaitBefore, AwaitBetween, AwaitOn, AwaitAround, AreSameBut, AwaitRewriting}
 
 pub more_same : (starts : StartsView) → WaitMore starts starts

@@ -1,5 +1,5 @@
 -- The wires of chosen gates in a mask.
-use Rattle.std.proofs.Common.{◌≡◌, ◌≢◌, ℕ, ◌+◌, ◌%◌, ◌<◌, ◌≤◌, Bool, false, List, ◌⊎◌, min, length, get_or, set, take, inl, inr, refl, ap, sym, subst, ◌∙◌, arith, length-set, bit_and}
+use Rattle.std.proofs.Common.{◌≡◌, ℕ, ◌+◌, ◌<◌, ◌≤◌, Bool, List, ◌⊎◌, length, get_or, take, inl, inr, ap, sym, subst, ◌∙◌, arith}
 use Rattle.std.proofs.lemmas.Bool.{cases_lt}
 use Rattle.std.proofs.lemmas.List.{get_or-take, length-take, take_all}
 use Rattle.pq_gate.specs.declared.gate.Gate.{Gate}

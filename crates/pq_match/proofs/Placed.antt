@@ -204,15 +204,6 @@ module _ (slots : List Gate) (free : AreSlots slots) (row : RowView) (sound : Is
     on = λ p w valid uses. changes_on new run is done (HasBit mask) marks.marked p w valid uses;
   }
 
-  -- a slot before the run that isn't chosen stays as it is
-  pub stays_before : (new : List Gate) (run : Run) → IsExchanged slots new row.replacement wires places run → (p : ℕ) → is_chosen places p ≡ false → p < run.start → gate_at slots p ≡ gate_at new p
-  stays_before new run done p other low =
-      elim (cases_lt p (length slots)) [
-        | inl inside ↦ sym (done.freed.others p inside other) ∙ sym (done.filled.before p low)
-        | inr past ↦
-            get_or_past slots p (H 0) past ∙ sym (get_or_past new p (H 0) (let e : length new ≡ length slots = done.filled.whole ∙ done.freed.whole in omega arith))
-      ]
-
 -- each chosen place lies before the run's end
 pub chosen_below : (slots : List Gate) (places : List ℕ) (count : ℕ) (run : Run) → AllPairs (λ i j. i < j) places → IsRun slots places count run → All (λ i. i < run.end) places
 chosen_below slots places count run rising is k d below =

@@ -20,7 +20,7 @@ use Rattle.pq_match.specs.Work.{IsPlaced, IsExchanged, IsRun, IsSpare, ChangesAt
 use Rattle.pq_match.specs.Waiting.{StartsView, IsWaiting, IsNotedFailed, noted}
 use Rattle.pq_match.specs.Settled.{IsQuiet, IsFailed, IsSettled, AreSettled, TwoStandBefore, IsUsedAt, AwaitRewriting}
 use Rattle.pq_match.proofs.Placed.{room_long, whole, stays, freed, changes_on, changes_at, chosen_below}
-use Rattle.pq_match.proofs.Quieting.{SameOn, quiet_kept}
+use Rattle.pq_match.proofs.Quieting.{quiet_kept}
 use Rattle.pq_match.proofs.RankedRedexes.{free_is, chosen_somewhere}
 use Rattle.pq_match.proofs.RankedRewriting.{behind_last}
 use Rattle.pq_match.proofs.Starting.{failed_alike}

@@ -1,5 +1,5 @@
 -- No redex begins at a start that is settled.
-use Rattle.std.proofs.Common.{◌≡◌, ℕ, ◌+◌, ◌<◌, ◌≤◌, ◌⊎◌, inl, inr, true, List, [], ◌∷◌, length, get_or, refl, sym, ap, subst, ◌∙◌, arith}
+use Rattle.std.proofs.Common.{◌≡◌, ℕ, ◌+◌, ◌<◌, ◌≤◌, ◌⊎◌, inl, inr, List, [], ◌∷◌, length, get_or, refl, sym, ap, subst, arith}
 use Rattle.std.specs.Prelude.{All}
 use Rattle.std.proofs.lemmas.Bool.{cases_eq, cases_lt}
 use Rattle.pq_gate.specs.declared.gate.Gate.{Gate}
@@ -15,7 +15,7 @@ use Rattle.pq_match.specs.Redex.{RedexView, IsRedex, gate_at}
 use Rattle.pq_match.specs.First.{HasNoneAmong}
 use Rattle.pq_match.specs.Seek.{StartsAt, IsSeenAt, HasFailed}
 use Rattle.pq_match.specs.Waiting.{StartsView, IsWaiting, IsNotedFailed, noted, IsSameOf}
-use Rattle.pq_match.specs.Settled.{StandsAt, AreCandidates, SeesAhead, IsQuiet, IsStill, IsFailed, IsSettled, AreSettled}
+use Rattle.pq_match.specs.Settled.{StandsAt, AreCandidates, IsQuiet, IsStill, IsSettled, AreSettled}
 use Rattle.pq_match.specs.declared.looked.Looked.{Looked}
 use Rattle.pq_match.proofs.LookingAlike.{looks_alike}
 use Rattle.pq_match.proofs.Roles.{both_true}

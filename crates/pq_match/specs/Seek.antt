@@ -1,5 +1,5 @@
 -- What the search along the wires goes by, and how much of a list it looked at.
-use Rattle.std.specs.Prelude.{◌≡◌, ◌≢◌, ℕ, ◌+◌, ◌%◌, ◌<◌, ◌≤◌, ◌⊎◌, ◌↔◌, Bool, true, false, List, length, take, slice_index, slice_index_or, Option, Some, None}
+use Rattle.std.specs.Prelude.{◌≡◌, ◌≢◌, ℕ, ◌+◌, ◌%◌, ◌<◌, ◌≤◌, ◌⊎◌, ◌↔◌, Bool, true, false, List, length, slice_index, Option, Some, None}
 use Rattle.std.specs.Int.{bit_at}
 use Rattle.pq_gate.specs.declared.gate.Gate.{Gate}
 use Rattle.pq_gate.specs.Commuting.{Touches}
@@ -19,10 +19,6 @@ use Rattle.pq_match.specs.Redex.{RedexView, gate_at}
 use Rattle.pq_match.specs.First.{HasNoneAmong}
 use Rattle.pq_match.specs.Found.{FindsAmong, IsFoundAmong}
 use Rattle.pq_match.specs.Search.{HasNoFull, IsFirstFull}
-
--- The lists have the same first gates, so many of them. Where one has fewer, they are the same.
-abbrev pub BeginAlike : ℕ → List Gate → List Gate → Type 0
-BeginAlike reach gates other = take reach gates ≡ take reach other
 
 -- the mask has the wire's bit, by the remainder modulo 64
 abbrev pub HasBit : ℕ → ℕ → Type 0
@@ -145,30 +141,9 @@ pub record AreLedTo (gates : List Gate) (of_gate : Gate) (place : ℕ) (old new 
   pub wires : (v : ℕ) → v ≢ wire_of false of_gate → v ≢ wire_of true of_gate → slice_index new.wires v ≡ slice_index old.wires v
   pub others : (v : ℕ) → v ≢ wire_of false of_gate → v ≢ wire_of true of_gate → slice_index new.next v ≡ slice_index old.next v
 
--- what is noted of a start
-abbrev pub note_at : List Looked → ℕ → Looked
-note_at tried start = slice_index_or tried start (record { reach = 0; mask = 0 })
-
--- For each start up to the length of the list: nothing is known of it where the reach is 0, or else this is what a search
--- looked at that found no redex there.
-pub record AreTried (rules : List RowView) (slots : List Gate) (tried : List Looked) : Type 0 where
-  pub failed : (start : ℕ) → start < length tried → 0 < (note_at tried start).reach → HasFailed rules slots start (note_at tried start)
-
--- what looked at no place from `first` on is kept
-pub record AreKept (first : ℕ) (old new : List Looked) : Type 0 where
-  pub whole : length new ≡ length old
-  pub kept : (start : ℕ) → start < length new → 0 < (note_at new start).reach → (note_at new start ≡ note_at old start) × ((note_at new start).reach ≤ first)
-
 -- the first redex that begins at the start, or none
 abbrev pub TriesStart : List RowView → List Gate → ℕ → Option Redex → Type 0
 TriesStart rules gates start found = FindsAmong (StartsAt start) rules gates found
-
--- it was noted what the search of a start looked at
-pub record IsNoted (start : ℕ) (looked : Looked) (old new : List Looked) : Type 0 where
-  pub more : start < length new
-  pub bound : (other : ℕ) → other < length new → other ≢ start → other < length old
-  pub here : note_at new start ≡ looked
-  pub others : (other : ℕ) → other ≢ start → note_at new other ≡ note_at old other
 
 -- A gate with one wire has one role. This is not so of a CX with one wire twice, which no circuit has.
 abbrev pub IsClear : Gate → Type 0

@@ -1,5 +1,5 @@
 -- Which starts wait to be searched, and what is noted of the others.
-use Rattle.std.specs.Prelude.{◌≡◌, ◌≢◌, ℕ, ◌+◌, ◌*◌, ◌/◌, ◌%◌, ◌<◌, ◌≤◌, ◌⊎◌, ◌↔◌, List, bit_and, length, slice_index}
+use Rattle.std.specs.Prelude.{◌≡◌, ℕ, ◌+◌, ◌*◌, ◌/◌, ◌%◌, ◌<◌, ◌≤◌, ◌⊎◌, ◌↔◌, List, bit_and, length, slice_index}
 use Rattle.std.specs.Int.{bit_at}
 use Rattle.pq_match.specs.declared.looked.Looked.{Looked}
 

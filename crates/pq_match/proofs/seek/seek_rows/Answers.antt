@@ -1,5 +1,5 @@
 use Rattle.pq_match.proofs.Marking.{looks_on, near_more}
-use Rattle.pq_match.proofs.SeekRow.{none_tried_alike, tried_more_alike, tried_all_alike, tried_first_alike}
+use Rattle.pq_match.proofs.SeekRow.{tried_more_alike, tried_all_alike, tried_first_alike}
 use Rattle.pq_match.proofs.seek.seek_rows.Goals as goal
 
 pub loop-number-preserved : goal.loop-number-preserved

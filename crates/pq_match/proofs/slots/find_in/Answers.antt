@@ -1,4 +1,4 @@
-use Rattle.std.proofs.Common.{ℕ, ◌<◌, length, sym, subst, arith}
+use Rattle.std.proofs.Common.{length, sym, subst, arith}
 use Rattle.pq_match.specs.Waiting.{StartsView, IsWaiting}
 use Rattle.pq_match.proofs.Settling.{below_waiting}
 use Rattle.pq_match.proofs.Starting.{below_all_none}

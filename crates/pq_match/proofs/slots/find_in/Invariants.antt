@@ -1,4 +1,4 @@
-use Rattle.std.proofs.Common.{◌≡◌, ℕ, ◌-◌, ◌<◌, ◌≤◌, length}
+use Rattle.std.proofs.Common.{◌≡◌, ℕ, ◌-◌, ◌<◌, length}
 use Rattle.pq_match.specs.Waiting.{IsWaiting}
 use Rattle.pq_match.specs.Settled.{AreSettled}
 use Rattle.pq_match.proofs.slots.find_in.Given as goal

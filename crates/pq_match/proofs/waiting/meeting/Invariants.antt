@@ -1,4 +1,3 @@
-use Rattle.std.proofs.Common.{ℕ}
 use Rattle.pq_match.proofs.WakingWords.{AreMetBut}
 use Rattle.pq_match.proofs.waiting.meeting.Given as goal
 

@@ -1,4 +1,4 @@
-use Rattle.std.proofs.Common.{ℕ, ◌+◌, ◌-◌, ◌≤◌, ◌<◌, length}
+use Rattle.std.proofs.Common.{◌+◌, ◌-◌, ◌<◌, length}
 use Rattle.pq_gate.specs.Commuting.{Touches}
 use Rattle.pq_match.specs.Redex.{gate_at}
 use Rattle.pq_match.specs.Waiting.{WaitMore}
