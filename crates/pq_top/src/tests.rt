@@ -1,8 +1,11 @@
-ghost use Rattle.std.specs.Prelude.{◌<◌};
+ghost use Rattle.std.specs.Prelude.{◌<◌, ◌≤◌};
 
-use crate::{ArgumentFault, Receipt, refuse_arguments, run_popqc};
+use crate::feeding::source_program;
+use crate::{ArgumentFault, Receipt, generate, refuse_arguments, run_popqc};
 use pq_io::{ByteList, MemSink, MemSource, PlaceList};
+use pq_read::Options;
 use pq_round::OpenGate;
+use pq_write::write_program;
 use std::alloc::{AllocError, Global};
 use std::process::Abort;
 use std::test::Fail;
@@ -505,6 +508,30 @@ fn barriers_inside_are_dropped_where_they_are_to_be(rt: HostRuntime) -> Result<(
         0,
         NO_H,
     )?;
+    Ok(())
+}
+
+// Whether the text of so many generated gates, which the source gives in steps, is read as the gates that were written.
+fn are_read_back(alloc: Global, gates: u32, step: u32) -> Result<bool, AllocError>
+    requires gates { gates ≤ 20000 }
+    requires step { 0 < step }
+{
+    let program = generate(alloc, 5, 30, gates)?;
+    let text = write_program(alloc, &program)?;
+    let mut source = MemSource::new(text, step, list_of(alloc, None)?);
+    let options = Options {
+        drop_barriers: false,
+    };
+    match source_program(alloc, &mut source, options) {
+        Ok(read) => Ok(read.gates.as_slice() == program.gates.as_slice()),
+        Err(_) => Ok(false),
+    }
+}
+
+#[test]
+fn a_long_text_is_read_back(rt: HostRuntime) -> Result<(), Fail> {
+    assert!(&rt; are_read_back(rt.alloc(), 20_000, 10_007)?);
+    assert!(&rt; are_read_back(rt.alloc(), 20_000, 100_000)?);
     Ok(())
 }
 
