@@ -21,3 +21,7 @@ pub returns-in-Some-clause-one : goal.returns-in-Some-clause-one
 returns-in-Some-clause-one g c more =
     drawn_on c.args.pass.now.view c.claim.new.pass.view c.work.new.pass.view c.in-Some.ticket (given_up c.args.context.now.board.now.plan.jobs c.work.result)
     (claimed_some c.args.pass.now.view c.claim.new.pass.view c.in-Some.ticket c.in-Some.ensures.claimed) c.work.ensures.lowered
+
+pub work-requires-clause-held : goal.work-requires-clause-held
+work-requires-clause-held g c κs within =
+    (claimed_some c.args.pass.now.view c.claim.new.pass.view c.in-Some.ticket c.in-Some.ensures.claimed).held
