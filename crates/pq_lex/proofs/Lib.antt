@@ -5,3 +5,4 @@ pub mod Added
 pub mod Direct
 pub mod Values
 pub mod Ending
+pub mod Lines

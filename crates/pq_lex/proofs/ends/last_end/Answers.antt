@@ -1,5 +1,5 @@
 use Rattle.std.proofs.Common.{◌≤◌, length, arith}
-use Rattle.pq_lex.proofs.Ending.{mode_front, line_last, line_ended, line_mode, front_last}
+use Rattle.pq_lex.proofs.Lines.{mode_front, line_last, line_ended, line_mode, front_last}
 use Rattle.pq_lex.proofs.ends.last_end.Goals as goal
 
 pub returns-then-line-gt0-clause-ended : goal.returns-then-line-gt0-clause-ended

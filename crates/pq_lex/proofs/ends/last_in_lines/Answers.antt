@@ -2,7 +2,7 @@ use Rattle.std.proofs.Common.{◌≡◌, ◌+◌, ◌-◌, ◌≤◌, take, leng
 use Rattle.std.proofs.lemmas.List.{length-take-le, get_or-take}
 use Rattle.std.proofs.lemmas.Bool.{cases_lt}
 use Rattle.pq_lex.specs.Ends.{IsEnded}
-use Rattle.pq_lex.proofs.Ending.{mode_front, line_long, line_last, line_ended, lines_found}
+use Rattle.pq_lex.proofs.Lines.{mode_front, line_long, line_last, line_ended, lines_found}
 use Rattle.pq_lex.proofs.ends.last_in_lines.Goals as goal
 
 pub returns-then-line-gt0 : goal.returns-then-line-gt0
