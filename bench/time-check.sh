@@ -13,7 +13,16 @@ awk -v gates="$gates" 'BEGIN {
   print "OPENQASM 2.0;\ninclude \"qelib1.inc\";\nqreg q[4096];"
   for (i = 0; i < gates; i++) printf "%s q[%d];\n", int(i / 4096) % 2 ? "t" : "h", i % 4096
 }' > "$folder/hadamards.qasm"
-for text in random hadamards; do
+# many CX from one control, and onto one target
+awk -v gates="$gates" 'BEGIN {
+  print "OPENQASM 2.0;\ninclude \"qelib1.inc\";\nqreg q[4096];"
+  for (i = 0; i < gates; i++) printf "cx q[0],q[%d];\n", 1 + i % 4095
+}' > "$folder/controls.qasm"
+awk -v gates="$gates" 'BEGIN {
+  print "OPENQASM 2.0;\ninclude \"qelib1.inc\";\nqreg q[4096];"
+  for (i = 0; i < gates; i++) printf "cx q[%d],q[0];\n", 1 + i % 4095
+}' > "$folder/targets.qasm"
+for text in random hadamards controls targets; do
   start=$(date +%s%N)
   answer=$("$program" check --omega "$omega" < "$folder/$text.qasm" || true)
   end=$(date +%s%N)
