@@ -79,7 +79,7 @@ fn failing_notes_change_no_status(rt: HostRuntime) -> Result<(), Fail> {
         let mut log = Vec::new(rt.alloc());
         let words = ["opt", "--omega", "1"];
         let notes = failing_at(call);
-        let outcome = run_logging(&rt, &words, TWO_H, WHOLE, WHOLE, notes, &mut log)?;
+        let outcome = run_logging(&rt, &words, TWO_H, WHOLE, WHOLE, notes, &mut log, &OpenGate)?;
         expect(&rt, &outcome, 2, "", note);
     }
     Ok(())

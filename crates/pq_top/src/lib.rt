@@ -17,7 +17,11 @@ mod check;
 #[cfg(test)]
 mod device_tests;
 mod feeding;
+#[cfg(test)]
+mod held_tests;
 mod laws;
+#[cfg(test)]
+mod limit_tests;
 mod notes;
 mod optimise;
 #[cfg(test)]

@@ -4,7 +4,7 @@ use crate::feeding::source_program;
 use crate::{ArgumentFault, Receipt, generate, refuse_arguments, run_popqc};
 use pq_io::{ByteList, MemSink, MemSource, PlaceList};
 use pq_read::Options;
-use pq_round::OpenGate;
+use pq_round::{OpenGate, WorkGate};
 use pq_write::write_program;
 use std::alloc::{AllocError, Global};
 use std::process::Abort;
@@ -30,7 +30,7 @@ const FAR_H: &str = "OPENQASM 2.0;\ninclude \"qelib1.inc\";\nqreg q[4];\n\
 const BARRIER_INSIDE: &str =
     "OPENQASM 2.0;\ninclude \"qelib1.inc\";\nqreg q[1];\nh q[0];\nbarrier q;\nh q[0];\n";
 
-const EIGHT_GATES: &str = "OPENQASM 2.0;\ninclude \"qelib1.inc\";\nqreg q[4];\n\
+pub(crate) const EIGHT_GATES: &str = "OPENQASM 2.0;\ninclude \"qelib1.inc\";\nqreg q[4];\n\
     h q[0];\nh q[0];\nt q[1];\ns q[1];\nt q[2];\ns q[2];\nh q[3];\nh q[3];\n";
 
 const FIVE_GATES: &str = "OPENQASM 2.0;\ninclude \"qelib1.inc\";\nqreg q[2];\n\
@@ -51,10 +51,13 @@ pub(crate) const WHOLE: Device = Device {
 // What a run left behind.
 #[derive(Drop)]
 pub(crate) struct Outcome {
-    status: u8,
-    sink: MemSink,
+    pub status: u8,
+    pub sink: MemSink,
     notes: MemSink,
 }
+
+// The room of the sinks, in which the greatest output has room.
+const ROOM: u64 = 12_000_000;
 
 fn list_of(alloc: Global, places: Option<u64>) -> Result<PlaceList, AllocError> {
     let mut list = Vec::new(alloc);
@@ -84,11 +87,11 @@ pub(crate) fn run(
     requires sink { 0 < sink.step }
 {
     let mut log = Vec::new(rt.alloc());
-    run_logging(rt, words, text, source, sink, WHOLE, &mut log)
+    run_logging(rt, words, text, source, sink, WHOLE, &mut log, &OpenGate)
 }
 
-// The same with a sink of notes and a log.
-pub(crate) fn run_logging(
+// The same with a sink of notes, a log and a gate.
+pub(crate) fn run_logging<G: WorkGate>(
     rt: &(impl AllocGlobal + Threads + Sync),
     words: &[&str],
     text: &str,
@@ -96,6 +99,7 @@ pub(crate) fn run_logging(
     sink: Device,
     notes: Device,
     log: &mut Vec<Receipt>,
+    gate: &G,
 ) -> Result<Outcome, AllocError>
     requires source { 0 < source.step }
     requires sink { 0 < sink.step }
@@ -105,7 +109,7 @@ pub(crate) fn run_logging(
     let words = words_of(alloc, words)?;
     let bytes = ByteList::of(Vec::from_slice(alloc, text.as_bytes())?);
     let mut source = MemSource::new(bytes, source.step, list_of(alloc, source.fails)?);
-    let mut sink = MemSink::new(alloc, sink.step, 1000, list_of(alloc, sink.fails)?)?;
+    let mut sink = MemSink::new(alloc, sink.step, ROOM, list_of(alloc, sink.fails)?)?;
     let mut notes = MemSink::new(alloc, notes.step, 1000, list_of(alloc, notes.fails)?)?;
     let status = run_popqc(
         rt,
@@ -115,7 +119,7 @@ pub(crate) fn run_logging(
         &mut sink,
         &mut notes,
         log,
-        &OpenGate,
+        gate,
     );
     Ok(Outcome {
         status,
@@ -316,7 +320,16 @@ fn logs(
     text: &str,
     want: &[[u64; 4]],
 ) -> Result<(), AllocError> {
-    let outcome = run_logging(rt, &["opt", "--omega", "2"], text, WHOLE, WHOLE, WHOLE, log)?;
+    let outcome = run_logging(
+        rt,
+        &["opt", "--omega", "2"],
+        text,
+        WHOLE,
+        WHOLE,
+        WHOLE,
+        log,
+        &OpenGate,
+    )?;
     assert_eq!(rt; outcome.status, 0);
     assert_eq!(rt; log.len(), want.len());
     for (receipt, numbers) in log.iter().zip(want) {
