@@ -1,4 +1,3 @@
-use std::hint;
 use std::sync::atomic::{AtomicBool, AtomicU64, Ordering};
 
 /// What workers call before and after they work a ticket.
@@ -55,7 +54,6 @@ impl HeldGate {
             if self.is_worked.load(Ordering::SeqCst) {
                 return true;
             }
-            hint::spin_loop();
         }
         false
     }
