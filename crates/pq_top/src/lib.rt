@@ -94,6 +94,8 @@ pub fn run_popqc<R: Threads + Sync, S: Source, K: Sink, N: Sink, G: WorkGate>(
         → ¬ HasFaulted (moved K.held K.faults sink.old sink.new)
         → IsMadeUnlessMemory (map string_bytes words.now)
         (moved S.left S.faults source.old source.new) (moved K.held K.faults sink.old sink.new) result }
+
+    // Over a source, or a sink, that never fails.
     ensures no_read_fault { NeverFails S.faults → ¬ (result ≡ 4) }
     ensures no_write_fault { NeverFails K.faults → ¬ (result ≡ 5) }
 
