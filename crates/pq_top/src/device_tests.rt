@@ -85,13 +85,14 @@ fn failing_notes_change_no_status(rt: HostRuntime) -> Result<(), Fail> {
     Ok(())
 }
 
-// A stream that falters at one of its calls: as a reader it fails there, as a writer it takes no byte. Else it gives
-// what is left of a text, at most 16 bytes at once, or takes all.
+// A stream that falters at one of its calls: it fails there, or as a writer takes no byte, where that is asked for. Else it
+// gives what is left of a text, at most 16 bytes at once, or takes all.
 #[derive(Drop)]
 struct Faltering {
     left: &'static [u8],
     calls: u64,
     falters_at: u64,
+    takes_nothing: bool,
 }
 
 impl Faltering {
@@ -116,10 +117,13 @@ impl Read for Faltering {
 
 impl Write for Faltering {
     fn write(&mut self, piece: &[u8]) -> io::Result<usize> {
-        if self.falters() {
+        if !self.falters() {
+            return Ok(piece.len());
+        }
+        if self.takes_nothing {
             return Ok(0);
         }
-        Ok(piece.len())
+        Err(io::Error::from(ErrorKind::Interrupted))
     }
 
     fn flush(&mut self) -> io::Result<()> {
@@ -127,25 +131,26 @@ impl Write for Faltering {
     }
 }
 
-fn faltering_at(falters_at: u64) -> Faltering {
+fn faltering_at(falters_at: u64, takes_nothing: bool) -> Faltering {
     Faltering {
         left: BY_HAND.as_bytes(),
         calls: 0,
         falters_at,
+        takes_nothing,
     }
 }
 
-// Optimises the text by hand from a stream to a stream, and to one for the notes. The status, and how many calls there were of each.
+// Optimises the text by hand from a stream to a stream. The status, and the faults of the source and of the sink.
 fn over_streams(
     rt: &(impl AllocGlobal + Threads + Sync),
-    reader_falters_at: u64,
-    writer_falters_at: u64,
+    reader: Faltering,
+    writer: Faltering,
 ) -> Result<(u8, u64, u64), AllocError> {
     let alloc = rt.alloc();
     let mut log = Vec::new(alloc);
     let mut notes = Vec::new(alloc);
-    let mut source = ReadSource::new(faltering_at(reader_falters_at));
-    let mut sink = WriteSink::new(faltering_at(writer_falters_at));
+    let mut source = ReadSource::new(reader);
+    let mut sink = WriteSink::new(writer);
     let status = run_popqc(
         rt,
         alloc,
@@ -161,16 +166,19 @@ fn over_streams(
 
 #[test]
 fn a_stream_that_falters_once_is_not_asked_again(rt: HostRuntime) -> Result<(), Fail> {
-    for (reader, writer, want) in [
-        (0, 9, (4, 1, 0)),
-        (3, 9, (4, 1, 0)),
-        (9, 9, (4, 1, 0)),
-        (10, 0, (5, 0, 1)),
-        (10, 1, (0, 0, 0)),
+    for (reader_at, writer_at, takes_nothing, want) in [
+        (0, 9, false, (4, 1, 0)),
+        (3, 9, false, (4, 1, 0)),
+        (9, 9, false, (4, 1, 0)),
+        (10, 0, false, (5, 0, 1)),
+        (10, 0, true, (5, 0, 1)),
+        (10, 1, true, (0, 0, 0)),
     ] {
+        let reader = faltering_at(reader_at, false);
+        let writer = faltering_at(writer_at, takes_nothing);
         assert!(rt;
             over_streams(&rt, reader, writer)? == want,
-            "{reader} {writer}"
+            "{reader_at} {writer_at} {takes_nothing}"
         );
     }
     Ok(())
