@@ -8,5 +8,5 @@ mod rounds;
 mod tests;
 mod workers;
 
-pub use gate::{OpenGate, WorkGate};
+pub use gate::{HeldGate, OpenGate, WorkGate};
 pub use rounds::{Round, run_round};

@@ -4,7 +4,7 @@ ghost use Rattle.pq_limits.specs.Limits.{AreWorkers};
 ghost use Rattle.pq_array.specs.Cells.{IsLive};
 ghost use Rattle.pq_board.specs.Steps.{BelongsTo, unused};
 
-use crate::{OpenGate, Round, WorkGate, run_round};
+use crate::{HeldGate, OpenGate, Round, WorkGate, run_round};
 use pq_array::{Cells, GateArray};
 use pq_board::{Board, Closed, Jobs, Pass, Receipt};
 use pq_gate::{Eighths, Gate};
@@ -238,4 +238,17 @@ fn two_jobs_are_worked_side_by_side(rt: HostRuntime) -> Result<(), Fail> {
     assert_eq!(rt; list.as_slice().len(), 2);
     assert_eq!(rt; meeting.met.load(Ordering::SeqCst), 2);
     Ok(())
+}
+
+#[test]
+fn a_ticket_that_is_held_in_vain_is_a_miss(rt: HostRuntime) {
+    let gate = HeldGate::new(0, 1);
+    gate.before(1);
+    gate.after(0);
+    assert_eq!(rt; gate.misses(), 0);
+    gate.before(0);
+    assert_eq!(rt; gate.misses(), 1);
+    gate.after(1);
+    gate.before(0);
+    assert_eq!(rt; gate.misses(), 1);
 }

@@ -14,8 +14,10 @@ use Rattle.pq_top.specs.declared.answer.Refusal.{Refusal}
 use Rattle.pq_top.specs.declared.answer.Refusal.TheVariants.{Text, TooLong}
 use Rattle.pq_top.specs.Device.{Moved, HasFaulted, Noted}
 use Rattle.pq_top.specs.Outputs.{IsAccepted}
-use Rattle.pq_top.specs.Request.{AskFor, AskToRead, reads_by}
-use Rattle.pq_top.specs.Answers.{Refuses, IsRefused, IsDoneUnlessMemory}
+use Rattle.pq_command.specs.declared.settings.Settings.TheVariants as settings
+use Rattle.pq_top.specs.Request.{AskFor, AskToRead, AskToMake, reads_by}
+use Rattle.pq_top.specs.Outputs.{Makes}
+use Rattle.pq_top.specs.Answers.{Refuses, IsRefused, IsDone, IsDoneUnlessMemory, IsMadeUnlessMemory}
 use Rattle.pq_top.specs.Work.{Means, status_of, status_by, note_line}
 
 -- the status of work that was done is 0 or 1
@@ -32,9 +34,10 @@ refused _ words input output notes means noted e = absurd (omega arith)
 
 -- When a status comes.
 
-done_or_memory : (found : Bool) → IsDoneUnlessMemory (status_by found)
-done_or_memory false = inl refl
-done_or_memory true = inr (inl refl)
+done_or_memory : (words : List (List ℕ)) (input output : Moved) (found : Bool) → IsDone words input output (status_by found) →
+    IsDoneUnlessMemory words input output (status_by found)
+done_or_memory words input output false done = inl (refl, done)
+done_or_memory words input output true done = inr (inl (refl, done))
 
 -- words that ask for something have no fault
 not_faulty : {B : Type 0} (words : List (List ℕ)) (wanted : Settings) (fault : UsageFault) → AskFor words wanted → asked words ≡ Err fault → B
@@ -75,8 +78,8 @@ not_refused (Text fault) input options left refuses e good =
 
 done_then : (answer : Answer) (words : List (List ℕ)) (input output : Moved) (options : Options) (left : List ℕ) → Means words input output answer →
     AskToRead words options → (HasFaulted input → ⊥) → (HasFaulted output → ⊥) → input.before ≡ Some left → IsAccepted options left →
-    IsDoneUnlessMemory (status_of answer)
-done_then (Done found) words input output options left means asks calm quiet e good = done_or_memory found
+    IsDoneUnlessMemory words input output (status_of answer)
+done_then (Done found) words input output options left means asks calm quiet e good = done_or_memory words input output found means
 done_then OutOfMemory words input output options left means asks calm quiet e good = inr (inr refl)
 done_then (Usage fault) words input output options left means asks calm quiet e good = not_faulty words asks.0 fault asks.1 means
 done_then (Refused refusal) words input output options left means asks calm quiet e good =
@@ -93,7 +96,52 @@ where_told (Some left) P holds = holds left refl
 
 pub done_comes : (answer : Answer) (status : ℕ) (words : List (List ℕ)) (input output : Moved) (options : Options) → status ≡ status_of answer →
     Means words input output answer → AskToRead words options → (HasFaulted input → ⊥) → (HasFaulted output → ⊥) →
-    IfSome input.before (λ text. IsAccepted options text → IsDoneUnlessMemory status)
+    IfSome input.before (λ text. IsAccepted options text → IsDoneUnlessMemory words input output status)
 done_comes answer status words input output options is means asks calm quiet =
-    where_told input.before (λ text. IsAccepted options text → IsDoneUnlessMemory status)
-    (λ left e good. subst IsDoneUnlessMemory (sym is) (done_then answer words input output options left means asks calm quiet e good))
+    where_told input.before (λ text. IsAccepted options text → IsDoneUnlessMemory words input output status)
+    (λ left e good. subst (IsDoneUnlessMemory words input output) (sym is) (done_then answer words input output options left means asks calm quiet e good))
+
+-- a command that reads nothing makes its output with status 0
+made_with_0 : (wanted : Settings) (text : List ℕ) (status : ℕ) (written : List ℕ) → reads_by wanted ≡ None → Makes wanted text status written → status ≡ 0
+made_with_0 (settings.Opt omega workers drop_barriers) text status written none makes = makes.0
+made_with_0 (settings.Check omega drop_barriers) text status written none makes = absurd (cc)
+made_with_0 (settings.Gen seed qubits gates) text status written none makes = makes.0
+made_with_0 (settings.Bench omega workers seed qubits gates) text status written none makes = makes.0
+
+-- words that ask for such a command don't ask for one that reads
+not_read : {B : Type 0} (words : List (List ℕ)) (options : Options) → AskToMake words → AskToRead words options → B
+not_read words options asks reads =
+    let way : reads_by asks.0 ≡ Some options = same_reading words asks.0 options asks.1 reads in
+    let none : reads_by asks.0 ≡ None = asks.2 in absurd (cc)
+
+made_then : (answer : Answer) (words : List (List ℕ)) (input output : Moved) → Means words input output answer → AskToMake words →
+    (HasFaulted output → ⊥) → IsMadeUnlessMemory words input output (status_of answer)
+made_then (Done found) words input output means asks quiet =
+    let same : means.produces.wanted ≡ asks.0 = same_settings words means.produces.wanted asks.0 means.produces.asks asks.1 in
+    let none : reads_by means.produces.wanted ≡ None = ap reads_by same ∙ asks.2 in
+    let is_0 : status_by found ≡ 0 = made_with_0 means.produces.wanted means.produces.text (status_by found) means.written none means.produces.makes in
+    inl (is_0, subst (IsDone words input output) is_0 means)
+made_then OutOfMemory words input output means asks quiet = inr refl
+made_then (Usage fault) words input output means asks quiet = not_faulty words asks.0 fault asks.1 means
+made_then (Refused refusal) words input output means asks quiet = not_read words means.options asks means.asks
+made_then (ReadFault taken) words input output means asks quiet = not_read words means.options asks means.asks
+made_then (WriteFault sent) words input output means asks quiet = absurd (quiet means.failed.rose)
+
+pub made_comes : (answer : Answer) (status : ℕ) (words : List (List ℕ)) (input output : Moved) → status ≡ status_of answer →
+    Means words input output answer → AskToMake words → (HasFaulted output → ⊥) → IsMadeUnlessMemory words input output status
+made_comes answer status words input output is means asks quiet =
+    subst (IsMadeUnlessMemory words input output) (sym is) (made_then answer words input output means asks quiet)
+
+-- Statuses 4 and 5 come of faults alone.
+
+pub not_4 : (answer : Answer) (status : ℕ) (words : List (List ℕ)) (input output : Moved) → status ≡ status_of answer → Means words input output answer →
+    (HasFaulted input → ⊥) → status ≡ 4 → ⊥
+not_4 (ReadFault taken) status words input output is means calm is_4 = calm means.failed.rose
+not_4 (Done found) status words input output is means calm is_4 = omega (arith, is, is_4, found_below found)
+not_4 _ status words input output is means calm is_4 = omega (arith, is, is_4)
+
+pub not_5 : (answer : Answer) (status : ℕ) (words : List (List ℕ)) (input output : Moved) → status ≡ status_of answer → Means words input output answer →
+    (HasFaulted output → ⊥) → status ≡ 5 → ⊥
+not_5 (WriteFault sent) status words input output is means quiet is_5 = quiet means.failed.rose
+not_5 (Done found) status words input output is means quiet is_5 = omega (arith, is, is_5, found_below found)
+not_5 _ status words input output is means quiet is_5 = omega (arith, is, is_5)

@@ -91,6 +91,11 @@ IsStatus status = (status ≡ 0) ⊎ ((status ≡ 1) ⊎ ((status ≡ 2) ⊎ ((s
 abbrev pub IsUnlessMemory : ℕ → ℕ → Type 0
 IsUnlessMemory status wanted = (status ≡ wanted) ⊎ (status ≡ 6)
 
--- the command was done, unless memory ran out
-abbrev pub IsDoneUnlessMemory : ℕ → Type 0
-IsDoneUnlessMemory status = (status ≡ 0) ⊎ ((status ≡ 1) ⊎ (status ≡ 6))
+-- the command was done, with status 0 or 1, unless memory ran out
+abbrev pub IsDoneUnlessMemory : List (List ℕ) → Moved → Moved → ℕ → Type 0
+IsDoneUnlessMemory words input output status =
+    ((status ≡ 0) × IsDone words input output 0) ⊎ (((status ≡ 1) × IsDone words input output 1) ⊎ (status ≡ 6))
+
+-- the command was done, with status 0, unless memory ran out
+abbrev pub IsMadeUnlessMemory : List (List ℕ) → Moved → Moved → ℕ → Type 0
+IsMadeUnlessMemory words input output status = ((status ≡ 0) × IsDone words input output 0) ⊎ (status ≡ 6)

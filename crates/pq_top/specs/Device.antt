@@ -19,6 +19,10 @@ moved tells faults old new = record { before = tells old; after = tells new; was
 abbrev pub HasFaulted : Moved → Type 0
 HasFaulted device = Rose device.was device.now
 
+-- whatever comes, the count of faults doesn't rise
+abbrev pub NeverFails : {A : Type 0} → (A → ℕ) → Type 0
+NeverFails {A} faults = (old new : A) → ¬ Rose (faults old) (faults new)
+
 -- The sink holds the whole line more where its count of faults didn't rise, and else a front of it.
 pub record Noted (device : Moved) (line : List ℕ) : Type 0 where
   pub count : ℕ

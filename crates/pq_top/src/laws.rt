@@ -1,7 +1,10 @@
 ghost use Rattle.std.specs.Prelude.{◌≡◌, ℕ, List};
 ghost use Rattle.pq_command.specs.declared.settings.Settings.{Settings};
+ghost use Rattle.pq_top.specs.Device.{NeverFails};
 ghost use Rattle.pq_top.specs.Request.{DifferInWorkers};
 ghost use Rattle.pq_top.specs.Outputs.{Makes};
+
+use pq_io::{Sink, Source, SureSink, SureSource};
 
 /// A command makes one output of a text, with one status.
 pub fn commands_have_one_output()
@@ -17,4 +20,10 @@ pub fn workers_change_no_output()
         → (status ≡ another) × (output ≡ other) }
     ensures made { (wanted others : Settings) (text : List ℕ) (status : ℕ) (output : List ℕ)
         → DifferInWorkers wanted others → Makes wanted text status output → Makes others text status output }
+{}
+
+/// These devices never fail: over them `run_popqc` answers neither 4 nor 5.
+pub fn sure_devices_never_fail()
+    ensures source { NeverFails ⟦<SureSource as Source>⟧.faults }
+    ensures sink { NeverFails ⟦<SureSink as Sink>⟧.faults }
 {}

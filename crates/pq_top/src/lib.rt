@@ -4,25 +4,33 @@
 ghost use Rattle.std.specs.Prelude.{◌≡◌, ◌⊎◌, IfSome, map};
 ghost use Rattle.std.specs.String.{string_bytes};
 ghost use Rattle.pq_read.specs.declared.program.Options.{Options};
-ghost use Rattle.pq_top.specs.Device.{moved, HasFaulted, Noted};
+ghost use Rattle.pq_top.specs.Device.{moved, HasFaulted, NeverFails, Noted};
 ghost use Rattle.pq_top.specs.Request.{AreFaulty, AskToRead, AskToMake};
 ghost use Rattle.pq_top.specs.Outputs.{IsAccepted};
 ghost use Rattle.pq_top.specs.Notes.{usage_line, out_of_memory_line};
-ghost use Rattle.pq_top.specs.Answers.{IsDone, IsUsage, IsRefused, IsReadFault, IsWriteFault, IsStatus, IsUnlessMemory, IsDoneUnlessMemory};
+ghost use Rattle.pq_top.specs.Answers.{IsDone, IsUsage, IsRefused, IsReadFault, IsWriteFault, IsStatus, IsUnlessMemory, IsDoneUnlessMemory, IsMadeUnlessMemory};
 ghost use Rattle.pq_top.specs.Work.{status_of};
 ghost use Rattle.pq_top.specs.Log.{Follows, HasLogged};
 
 mod answer;
 mod check;
+#[cfg(test)]
+mod device_tests;
 mod feeding;
+#[cfg(test)]
+mod held_tests;
 mod laws;
+#[cfg(test)]
+mod limit_tests;
 mod notes;
 mod optimise;
 #[cfg(test)]
 mod tests;
 
 use crate::answer::{Answer, work};
-pub use crate::laws::{commands_have_one_output, workers_change_no_output};
+pub use crate::laws::{
+    commands_have_one_output, sure_devices_never_fail, workers_change_no_output,
+};
 use crate::notes::note;
 use pq_command::UsageFault;
 pub use pq_generate::generate;
@@ -80,9 +88,16 @@ pub fn run_popqc<R: Threads + Sync, S: Source, K: Sink, N: Sink, G: WorkGate>(
     ensures done_comes { (options : Options) → AskToRead (map string_bytes words.now) options
         → ¬ HasFaulted (moved S.left S.faults source.old source.new)
         → ¬ HasFaulted (moved K.held K.faults sink.old sink.new)
-        → IfSome (S.left source.old) (λ text. IsAccepted options text → IsDoneUnlessMemory result) }
+        → IfSome (S.left source.old) (λ text. IsAccepted options text → IsDoneUnlessMemory (map string_bytes words.now)
+        (moved S.left S.faults source.old source.new) (moved K.held K.faults sink.old sink.new) result) }
     ensures made_comes { AskToMake (map string_bytes words.now)
-        → ¬ HasFaulted (moved K.held K.faults sink.old sink.new) → IsUnlessMemory result 0 }
+        → ¬ HasFaulted (moved K.held K.faults sink.old sink.new)
+        → IsMadeUnlessMemory (map string_bytes words.now)
+        (moved S.left S.faults source.old source.new) (moved K.held K.faults sink.old sink.new) result }
+
+    // Over a source, or a sink, that never fails.
+    ensures no_read_fault { NeverFails S.faults → ¬ (result ≡ 4) }
+    ensures no_write_fault { NeverFails K.faults → ¬ (result ≡ 5) }
 
     // What the log takes.
     ensures log { (result ≡ 0) ⊎ (result ≡ 5) → HasLogged (map string_bytes words.now)

@@ -4,7 +4,7 @@ use crate::feeding::source_program;
 use crate::{ArgumentFault, Receipt, generate, refuse_arguments, run_popqc};
 use pq_io::{ByteList, MemSink, MemSource, PlaceList};
 use pq_read::Options;
-use pq_round::OpenGate;
+use pq_round::{OpenGate, WorkGate};
 use pq_write::write_program;
 use std::alloc::{AllocError, Global};
 use std::process::Abort;
@@ -13,9 +13,10 @@ use std::thread::Threads;
 
 const FRONT: &str = "OPENQASM 2.0;\ninclude \"qelib1.inc\";\nqreg q[4];\n";
 
-const TWO_H: &str = "OPENQASM 2.0;\ninclude \"qelib1.inc\";\nqreg q[1];\nh q[0];\nh q[0];\n";
+pub(crate) const TWO_H: &str =
+    "OPENQASM 2.0;\ninclude \"qelib1.inc\";\nqreg q[1];\nh q[0];\nh q[0];\n";
 
-const NO_H: &str = "OPENQASM 2.0;\ninclude \"qelib1.inc\";\nqreg q[1];\n\
+pub(crate) const NO_H: &str = "OPENQASM 2.0;\ninclude \"qelib1.inc\";\nqreg q[1];\n\
     // gates 2 0\n// rounds 1\n// calls 1\n// first fingers 1\n// phase 0\n";
 
 const NO_GATE: &str = "OPENQASM 2.0;\ninclude \"qelib1.inc\";\nqreg q[1];\n";
@@ -29,7 +30,7 @@ const FAR_H: &str = "OPENQASM 2.0;\ninclude \"qelib1.inc\";\nqreg q[4];\n\
 const BARRIER_INSIDE: &str =
     "OPENQASM 2.0;\ninclude \"qelib1.inc\";\nqreg q[1];\nh q[0];\nbarrier q;\nh q[0];\n";
 
-const EIGHT_GATES: &str = "OPENQASM 2.0;\ninclude \"qelib1.inc\";\nqreg q[4];\n\
+pub(crate) const EIGHT_GATES: &str = "OPENQASM 2.0;\ninclude \"qelib1.inc\";\nqreg q[4];\n\
     h q[0];\nh q[0];\nt q[1];\ns q[1];\nt q[2];\ns q[2];\nh q[3];\nh q[3];\n";
 
 const FIVE_GATES: &str = "OPENQASM 2.0;\ninclude \"qelib1.inc\";\nqreg q[2];\n\
@@ -37,23 +38,26 @@ const FIVE_GATES: &str = "OPENQASM 2.0;\ninclude \"qelib1.inc\";\nqreg q[2];\n\
 
 // A device: how many bytes a call moves at most, and which call fails.
 #[derive(Clone, Copy)]
-struct Device {
-    step: u32,
-    fails: Option<u64>,
+pub(crate) struct Device {
+    pub step: u32,
+    pub fails: Option<u64>,
 }
 
-const WHOLE: Device = Device {
+pub(crate) const WHOLE: Device = Device {
     step: 1000,
     fails: None,
 };
 
 // What a run left behind.
 #[derive(Drop)]
-struct Outcome {
-    status: u8,
-    sink: MemSink,
+pub(crate) struct Outcome {
+    pub status: u8,
+    pub sink: MemSink,
     notes: MemSink,
 }
+
+// The room of the sinks, in which the greatest output has room.
+const ROOM: u64 = 12_000_000;
 
 fn list_of(alloc: Global, places: Option<u64>) -> Result<PlaceList, AllocError> {
     let mut list = Vec::new(alloc);
@@ -63,7 +67,7 @@ fn list_of(alloc: Global, places: Option<u64>) -> Result<PlaceList, AllocError> 
     Ok(PlaceList::of(list))
 }
 
-fn words_of(alloc: Global, words: &[&str]) -> Result<Vec<String>, AllocError> {
+pub(crate) fn words_of(alloc: Global, words: &[&str]) -> Result<Vec<String>, AllocError> {
     let mut list = Vec::new(alloc);
     for word in words {
         list.push(String::from_str(alloc, word)?)?;
@@ -72,7 +76,7 @@ fn words_of(alloc: Global, words: &[&str]) -> Result<Vec<String>, AllocError> {
 }
 
 // Runs the words on the text, with steps and failing calls of the source and the sink, and an empty log.
-fn run(
+pub(crate) fn run(
     rt: &(impl AllocGlobal + Threads + Sync),
     words: &[&str],
     text: &str,
@@ -83,27 +87,30 @@ fn run(
     requires sink { 0 < sink.step }
 {
     let mut log = Vec::new(rt.alloc());
-    run_logging(rt, words, text, source, sink, &mut log)
+    run_logging(rt, words, text, source, sink, WHOLE, &mut log, &OpenGate)
 }
 
-// The same with a log.
-fn run_logging(
+// The same with a sink of notes, a log and a gate.
+pub(crate) fn run_logging<G: WorkGate>(
     rt: &(impl AllocGlobal + Threads + Sync),
     words: &[&str],
     text: &str,
     source: Device,
     sink: Device,
+    notes: Device,
     log: &mut Vec<Receipt>,
+    gate: &G,
 ) -> Result<Outcome, AllocError>
     requires source { 0 < source.step }
     requires sink { 0 < sink.step }
+    requires notes { 0 < notes.step }
 {
     let alloc = rt.alloc();
     let words = words_of(alloc, words)?;
     let bytes = ByteList::of(Vec::from_slice(alloc, text.as_bytes())?);
     let mut source = MemSource::new(bytes, source.step, list_of(alloc, source.fails)?);
-    let mut sink = MemSink::new(alloc, sink.step, 1000, list_of(alloc, sink.fails)?)?;
-    let mut notes = MemSink::new(alloc, 7, 1000, list_of(alloc, None)?)?;
+    let mut sink = MemSink::new(alloc, sink.step, ROOM, list_of(alloc, sink.fails)?)?;
+    let mut notes = MemSink::new(alloc, notes.step, 1000, list_of(alloc, notes.fails)?)?;
     let status = run_popqc(
         rt,
         alloc,
@@ -112,7 +119,7 @@ fn run_logging(
         &mut sink,
         &mut notes,
         log,
-        &OpenGate,
+        gate,
     );
     Ok(Outcome {
         status,
@@ -122,9 +129,20 @@ fn run_logging(
 }
 
 // Compares what a run left behind.
-fn expect(rt: &impl Abort, outcome: &Outcome, status: u8, output: &str, note: &str) {
+pub(crate) fn expect(rt: &impl Abort, outcome: &Outcome, status: u8, output: &str, note: &str) {
+    expect_bytes(rt, outcome, status, output.as_bytes(), note);
+}
+
+// The same with the bytes of the output.
+pub(crate) fn expect_bytes(
+    rt: &impl Abort,
+    outcome: &Outcome,
+    status: u8,
+    output: &[u8],
+    note: &str,
+) {
     assert_eq!(rt; outcome.status, status, "{note}");
-    assert!(rt; outcome.sink.held() == output.as_bytes(), "{note}");
+    assert!(rt; outcome.sink.held() == output, "{note}");
     assert!(rt; outcome.notes.held() == note.as_bytes(), "{note}");
 }
 
@@ -302,7 +320,16 @@ fn logs(
     text: &str,
     want: &[[u64; 4]],
 ) -> Result<(), AllocError> {
-    let outcome = run_logging(rt, &["opt", "--omega", "2"], text, WHOLE, WHOLE, log)?;
+    let outcome = run_logging(
+        rt,
+        &["opt", "--omega", "2"],
+        text,
+        WHOLE,
+        WHOLE,
+        WHOLE,
+        log,
+        &OpenGate,
+    )?;
     assert_eq!(rt; outcome.status, 0);
     assert_eq!(rt; log.len(), want.len());
     for (receipt, numbers) in log.iter().zip(want) {
