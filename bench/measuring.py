@@ -3,6 +3,7 @@
 import csv
 import os
 import re
+import resource
 import subprocess
 import time
 from datetime import datetime, timezone
@@ -25,13 +26,19 @@ def machine():
 
 
 def run(program, words, text="", times=1):
-    """what the program writes, its report as numbers, and the seconds of the fastest of so many runs"""
+    """what the program writes, its report as numbers, and the least seconds of so many runs, of the clock and of the processors"""
     seconds = []
     for _ in range(times):
-        start = time.perf_counter()
+        start, used = time.perf_counter(), processor_seconds()
         ran = subprocess.run([program, *map(str, words)], input=text, capture_output=True, text=True, check=True)
-        seconds.append(time.perf_counter() - start)
-    return ran.stdout, report_of(ran.stdout), min(seconds)
+        seconds.append((time.perf_counter() - start, processor_seconds() - used))
+    by_clock, by_processors = map(min, zip(*seconds))
+    return ran.stdout, report_of(ran.stdout), {"seconds": f"{by_clock:.4f}", "processor_seconds": f"{by_processors:.4f}"}
+
+
+def processor_seconds():
+    used = resource.getrusage(resource.RUSAGE_CHILDREN)
+    return used.ru_utime + used.ru_stime
 
 
 def report_of(text):
