@@ -16,17 +16,17 @@ usage: ./popqc.sh COMMAND [OPTIONS] < INPUT > OUTPUT
   gen      write a generated program; reads nothing
   bench    write the report alone of optimising one; reads nothing
 
-  --omega N        opt, check, bench  gates of a window, 2 to 1024, else 64
-  --workers N      opt, bench         threads, 1 to 64, else 4
-  --drop-barriers  opt, check         take out barriers before gates
-  --seed N         gen, bench         start of the generator, 0 to 2^64 - 1
+  --omega N        opt, check, bench  window length, 2 to 1024 (default 64)
+  --workers N      opt, bench         threads, 1 to 64 (default 4)
+  --drop-barriers  opt, check         remove barriers that a gate follows
+  --seed N         gen, bench         seed of the generator, 0 to 2^64 - 1
   --qubits N       gen, bench         1 to 4096
   --gates N        gen, bench         0 to 1048576
 
 The input is OpenQASM 2.0 with Clifford+T gates. Statuses: 0 done, 1 check
 found a redex, 2 wrong arguments, 3 input refused, 4 input failed, 5 output
 failed, 6 out of memory. The first run proves and builds the program, which
-takes some minutes. More stands in docs/usage.md. An example:
+takes some minutes. docs/usage.md says more. An example:
 
   ./popqc.sh opt --omega 4 < examples/by-hand.qasm
 END
