@@ -1,27 +1,32 @@
 -- The last place on a wire, found along the places in the wire's bucket.
-use Rattle.std.proofs.Common.{◌≡◌, ◌≢◌, ℕ, ◌+◌, ◌%◌, ◌<◌, ◌≤◌, Bool, true, false, List, length, sym, ap, subst, ◌∙◌, arith, inl, inr, ◌⊎◌}
+use Rattle.std.proofs.Common.{◌≡◌, ◌≢◌, ℕ, ◌+◌, ◌-◌, ◌%◌, ◌<◌, ◌≤◌, Bool, true, false, List, length, sym, ap, subst, ◌∙◌, arith, inl, inr, ◌⊎◌}
 use Rattle.std.proofs.lemmas.Bool.{cases_order}
+use Rattle.std.proofs.lemmas.Nat.{and_le_r}
 use Rattle.pq_gate.specs.declared.gate.Gate.{Gate}
 use Rattle.pq_gate.specs.Commuting.{Touches}
 use Rattle.pq_links.specs.Wires.{wire_of}
 use Rattle.pq_links.specs.Places.{gate_at}
-use Rattle.pq_links.specs.Links.{far, IsLastIn}
+use Rattle.pq_links.specs.Links.{bucket_of, far, IsLastIn}
 use Rattle.pq_links.proofs.Touching.{touched}
+
+-- each wire has its bucket
+pub bucket_below : (buckets wire : ℕ) → 0 < buckets → bucket_of buckets wire < buckets
+bucket_below buckets wire some = omega (arith, and_le_r wire (buckets - 1))
 
 -- No gate behind the place uses the wire, and the place is in the wire's bucket, or past the end.
 pub record IsBack (buckets bucket : ℕ) (gates : List Gate) (wire place : ℕ) : Type 0 where
-  pub «in» : place < length gates → (one : Bool) × (wire_of one (gate_at gates place) % buckets ≡ bucket)
+  pub «in» : place < length gates → (one : Bool) × (bucket_of buckets (wire_of one (gate_at gates place)) ≡ bucket)
   pub none : (p : ℕ) → p < length gates → (place < length gates → place < p) → ¬ Touches (gate_at gates p) wire
   pub past : length gates ≤ place → place ≡ far
 
 -- a gate with no wire in the bucket doesn't use the wire
-not_in : (buckets : ℕ) (gate : Gate) (wire : ℕ) → ((one : Bool) → wire_of one gate % buckets ≢ wire % buckets) → ¬ Touches gate wire
+not_in : (buckets : ℕ) (gate : Gate) (wire : ℕ) → ((one : Bool) → bucket_of buckets (wire_of one gate) ≢ bucket_of buckets wire) → ¬ Touches gate wire
 not_in buckets gate wire none uses =
     let side = touched gate wire uses in
-    none side.0 (ap (λ (w : ℕ). w % buckets) (sym side.1))
+    none side.0 (ap (λ (w : ℕ). bucket_of buckets w) (sym side.1))
 
-pub back_starts : {buckets : ℕ} {gates : List Gate} (wire place : ℕ) → IsLastIn buckets (wire % buckets) gates (length gates) place →
-    IsBack buckets (wire % buckets) gates wire place
+pub back_starts : {buckets : ℕ} {gates : List Gate} (wire place : ℕ) → IsLastIn buckets (bucket_of buckets wire) gates (length gates) place →
+    IsBack buckets (bucket_of buckets wire) gates wire place
 back_starts {buckets} {gates} wire place last = record {
   «in» = last.«in»;
   none = λ p below behind. not_in buckets (gate_at gates p) wire (last.none p below behind);
@@ -29,9 +34,9 @@ back_starts {buckets} {gates} wire place last = record {
 }
 
 -- one place further back
-pub back_more : (buckets : ℕ) (gates : List Gate) (wire place earlier : ℕ) → length gates < far → IsBack buckets (wire % buckets) gates wire place →
-    place < length gates → ¬ Touches (gate_at gates place) wire → IsLastIn buckets (wire % buckets) gates place earlier →
-    IsBack buckets (wire % buckets) gates wire earlier
+pub back_more : (buckets : ℕ) (gates : List Gate) (wire place earlier : ℕ) → length gates < far → IsBack buckets (bucket_of buckets wire) gates wire place →
+    place < length gates → ¬ Touches (gate_at gates place) wire → IsLastIn buckets (bucket_of buckets wire) gates place earlier →
+    IsBack buckets (bucket_of buckets wire) gates wire earlier
 back_more buckets gates wire place earlier few back inside other last = record {
   «in» = λ below. last.«in» (before below (cases_order earlier place));
   none = λ p below behind. none p below behind (cases_order p place);
@@ -54,7 +59,7 @@ back_more buckets gates wire place earlier few back inside other last = record {
     none p below behind (inr (inr more)) = back.none p below (λ low. more)
 
 -- the other wire is in the bucket
-pub other_side : (buckets bucket : ℕ) (gate : Gate) → (one : Bool) × (wire_of one gate % buckets ≡ bucket) → (wire_of false gate % buckets ≢ bucket) → wire_of true gate % buckets ≡ bucket
+pub other_side : (buckets bucket : ℕ) (gate : Gate) → (one : Bool) × (bucket_of buckets (wire_of one gate) ≡ bucket) → (bucket_of buckets (wire_of false gate) ≢ bucket) → bucket_of buckets (wire_of true gate) ≡ bucket
 other_side buckets bucket gate (true, is) not_first = is
 other_side buckets bucket gate (false, is) not_first = absurd (not_first is)
 

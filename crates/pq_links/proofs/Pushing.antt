@@ -1,5 +1,5 @@
 -- The links of a list with a gate more.
-use Rattle.std.proofs.Common.{◌≡◌, ◌≢◌, ℕ, ◌+◌, ◌%◌, ◌<◌, ◌≤◌, Bool, true, false, List, [], ◌∷◌, ◌++◌, length, get_or, set, take, drop, refl, sym, ap, subst, ◌∙◌, arith, inl, inr, ◌⊎◌}
+use Rattle.std.proofs.Common.{◌≡◌, ◌≢◌, ℕ, ◌+◌, ◌<◌, ◌≤◌, Bool, true, false, List, [], ◌∷◌, ◌++◌, length, get_or, set, take, drop, refl, sym, ap, subst, ◌∙◌, arith, inl, inr, ◌⊎◌}
 use Rattle.std.proofs.lemmas.Bool.{cases_order}
 use Rattle.std.proofs.Math.ListN.{get_or-append}
 use Rattle.std.proofs.lemmas.Grind.{get_or-set_at}
@@ -11,7 +11,8 @@ use Rattle.pq_gate.specs.Commuting.{Touches}
 use Rattle.pq_links.specs.declared.links.Sides.{Sides}
 use Rattle.pq_links.specs.Wires.{wire_of}
 use Rattle.pq_links.specs.Places.{gate_at}
-use Rattle.pq_links.specs.Links.{side, side_at, far, IsNextOn, IsLastIn, IsLastOn, LinksView, AreLinked}
+use Rattle.pq_links.specs.Links.{bucket_of, side, side_at, far, IsNextOn, IsLastIn, IsLastOn, LinksView, AreLinked}
+use Rattle.pq_links.proofs.Buckets.{bucket_below}
 use Rattle.pq_links.proofs.Touching.{touched, touching}
 
 -- the last gate on a wire is led on to a place
@@ -76,21 +77,21 @@ module _ (gates : List Gate) (gate : Gate) where
 
   pub last_in_more : (buckets bucket bound c : ℕ) → bound ≤ length gates → IsLastIn buckets bucket gates bound c → IsLastIn buckets bucket (gates ++ gate ∷ []) bound c
   last_in_more buckets bucket bound c upto last = record {
-    «in» = λ less. subst (λ (g : Gate). (one : Bool) × (wire_of one g % buckets ≡ bucket)) (sym (old_at c (omega arith))) (last.«in» less);
-    none = λ p below behind. subst (λ (g : Gate). (one : Bool) → wire_of one g % buckets ≢ bucket) (sym (old_at p (omega arith))) (last.none p below behind);
+    «in» = λ less. subst (λ (g : Gate). (one : Bool) × (bucket_of buckets (wire_of one g) ≡ bucket)) (sym (old_at c (omega arith))) (last.«in» less);
+    none = λ p below behind. subst (λ (g : Gate). (one : Bool) → bucket_of buckets (wire_of one g) ≢ bucket) (sym (old_at p (omega arith))) (last.none p below behind);
     past = last.past;
   }
 
   -- the gate is the last in its buckets,
-  head_new : (buckets bucket : ℕ) (one : Bool) → wire_of one gate % buckets ≡ bucket → IsLastIn buckets bucket (gates ++ gate ∷ []) (length (gates ++ gate ∷ [])) (length gates)
+  head_new : (buckets bucket : ℕ) (one : Bool) → bucket_of buckets (wire_of one gate) ≡ bucket → IsLastIn buckets bucket (gates ++ gate ∷ []) (length (gates ++ gate ∷ [])) (length gates)
   head_new buckets bucket one is = record {
-    «in» = λ less. subst (λ (g : Gate). (one : Bool) × (wire_of one g % buckets ≡ bucket)) (sym new_at) (one, is);
+    «in» = λ less. subst (λ (g : Gate). (one : Bool) × (bucket_of buckets (wire_of one g) ≡ bucket)) (sym new_at) (one, is);
     none = λ p below behind. absurd (let l : length (gates ++ gate ∷ []) ≡ length gates + 1 = long in let b : length gates < p = behind (omega arith) in omega arith);
     past = λ above. absurd (let l : length (gates ++ gate ∷ []) ≡ length gates + 1 = long in omega arith);
   }
 
   -- and the others stay as they were
-  head_old : (buckets bucket c : ℕ) → length gates < far → IsLastIn buckets bucket gates (length gates) c → ((one : Bool) → wire_of one gate % buckets ≢ bucket) →
+  head_old : (buckets bucket c : ℕ) → length gates < far → IsLastIn buckets bucket gates (length gates) c → ((one : Bool) → bucket_of buckets (wire_of one gate) ≢ bucket) →
       IsLastIn buckets bucket (gates ++ gate ∷ []) (length (gates ++ gate ∷ [])) c
   head_old buckets bucket c few last other = record {
     «in» = λ less. among less (cases_order c (length gates));
@@ -99,17 +100,17 @@ module _ (gates : List Gate) (gate : Gate) where
   }
     where
       among : c < length (gates ++ gate ∷ []) → (c ≡ length gates) ⊎ ((c < length gates) ⊎ (length gates < c)) →
-          (one : Bool) × (wire_of one (gate_at (gates ++ gate ∷ []) c) % buckets ≡ bucket)
+          (one : Bool) × (bucket_of buckets (wire_of one (gate_at (gates ++ gate ∷ []) c)) ≡ bucket)
       among less (inl same) = (let e : c ≡ far = last.past (omega arith) in absurd (omega arith))
-      among less (inr (inl below)) = subst (λ (g : Gate). (one : Bool) × (wire_of one g % buckets ≡ bucket)) (sym (old_at c below)) (last.«in» below)
+      among less (inr (inl below)) = subst (λ (g : Gate). (one : Bool) × (bucket_of buckets (wire_of one g) ≡ bucket)) (sym (old_at c below)) (last.«in» below)
       among less (inr (inr above)) = (let l : length (gates ++ gate ∷ []) ≡ length gates + 1 = long in absurd (omega arith))
 
       none : (p : ℕ) → p < length (gates ++ gate ∷ []) → (c < length (gates ++ gate ∷ []) → c < p) → (p ≡ length gates) ⊎ ((p < length gates) ⊎ (length gates < p)) →
-          (one : Bool) → wire_of one (gate_at (gates ++ gate ∷ []) p) % buckets ≢ bucket
+          (one : Bool) → bucket_of buckets (wire_of one (gate_at (gates ++ gate ∷ []) p)) ≢ bucket
       none p below behind (inl same) =
-          subst (λ (g : Gate). (one : Bool) → wire_of one g % buckets ≢ bucket) (sym (ap (λ (k : ℕ). gate_at (gates ++ gate ∷ []) k) same ∙ new_at)) other
+          subst (λ (g : Gate). (one : Bool) → bucket_of buckets (wire_of one g) ≢ bucket) (sym (ap (λ (k : ℕ). gate_at (gates ++ gate ∷ []) k) same ∙ new_at)) other
       none p below behind (inr (inl less)) =
-          subst (λ (g : Gate). (one : Bool) → wire_of one g % buckets ≢ bucket) (sym (old_at p less))
+          subst (λ (g : Gate). (one : Bool) → bucket_of buckets (wire_of one g) ≢ bucket) (sym (old_at p less))
           (last.none p less (λ low. behind (let l : length (gates ++ gate ∷ []) ≡ length gates + 1 = long in omega arith)))
       none p below behind (inr (inr above)) = (let l : length (gates ++ gate ∷ []) ≡ length gates + 1 = long in absurd (omega arith))
 
@@ -182,8 +183,8 @@ module _ (gates : List Gate) (gate : Gate) where
         by (inr not_first) (inr not_second) _ _ = unled (apart not_first) (apart not_second)
 
     module _ (before : Sides) (buckets : ℕ) (are : buckets ≡ length links.heads)
-        (one_before : before.first ≡ get_or links.heads (wire_of false gate % buckets) 0)
-        (other_before : before.second ≡ get_or links.heads (wire_of true gate % buckets) 0)
+        (one_before : before.first ≡ get_or links.heads (bucket_of buckets (wire_of false gate)) 0)
+        (other_before : before.second ≡ get_or links.heads (bucket_of buckets (wire_of true gate)) 0)
         (nexts : length led ≡ length gates) where
       sides_long : length led ≡ length gates
       sides_long = nexts
@@ -214,7 +215,7 @@ module _ (gates : List Gate) (gate : Gate) where
       nexts_more p one below (inr (inr above)) = absurd (let l : length (gates ++ gate ∷ []) ≡ length gates + 1 = long in omega arith)
 
       befores_more : (p : ℕ) (one : Bool) → p < length (gates ++ gate ∷ []) → (p ≡ length gates) ⊎ ((p < length gates) ⊎ (length gates < p)) →
-          IsLastIn (length links.heads) (wire_of one (gate_at (gates ++ gate ∷ []) p) % length links.heads) (gates ++ gate ∷ []) p (side_at one (links.before ++ before ∷ []) p)
+          IsLastIn (length links.heads) (bucket_of (length links.heads) (wire_of one (gate_at (gates ++ gate ∷ []) p))) (gates ++ gate ∷ []) p (side_at one (links.before ++ before ∷ []) p)
       befores_more p one below (inl same) = rest one
         where
           there : get_or (links.before ++ before ∷ []) p (record { first = 0; second = 0 }) ≡ before
@@ -223,65 +224,65 @@ module _ (gates : List Gate) (gate : Gate) where
           gate_is : gate_at (gates ++ gate ∷ []) p ≡ gate
           gate_is = ap (λ (k : ℕ). gate_at (gates ++ gate ∷ []) k) same ∙ new_at
 
-          side_is : (one : Bool) → side one before ≡ get_or links.heads (wire_of one gate % length links.heads) 0
-          side_is true = other_before ∙ ap (λ (b : ℕ). get_or links.heads (wire_of true gate % b) 0) are
-          side_is false = one_before ∙ ap (λ (b : ℕ). get_or links.heads (wire_of false gate % b) 0) are
+          side_is : (one : Bool) → side one before ≡ get_or links.heads (bucket_of (length links.heads) (wire_of one gate)) 0
+          side_is true = other_before ∙ ap (λ (b : ℕ). get_or links.heads (bucket_of b (wire_of true gate)) 0) are
+          side_is false = one_before ∙ ap (λ (b : ℕ). get_or links.heads (bucket_of b (wire_of false gate)) 0) are
 
-          rest : (one : Bool) → IsLastIn (length links.heads) (wire_of one (gate_at (gates ++ gate ∷ []) p) % length links.heads) (gates ++ gate ∷ []) p (side_at one (links.before ++ before ∷ []) p)
+          rest : (one : Bool) → IsLastIn (length links.heads) (bucket_of (length links.heads) (wire_of one (gate_at (gates ++ gate ∷ []) p))) (gates ++ gate ∷ []) p (side_at one (links.before ++ before ∷ []) p)
           rest one =
-              subst (λ (g : Gate). IsLastIn (length links.heads) (wire_of one g % length links.heads) (gates ++ gate ∷ []) p (side_at one (links.before ++ before ∷ []) p)) (sym gate_is)
-              (subst (λ (s : Sides). IsLastIn (length links.heads) (wire_of one gate % length links.heads) (gates ++ gate ∷ []) p (side one s)) (sym there)
-              (subst (λ (c : ℕ). IsLastIn (length links.heads) (wire_of one gate % length links.heads) (gates ++ gate ∷ []) p c) (sym (side_is one))
-              (subst (λ (q : ℕ). IsLastIn (length links.heads) (wire_of one gate % length links.heads) (gates ++ gate ∷ []) q (get_or links.heads (wire_of one gate % length links.heads) 0)) (sym same)
-              (last_in_more (length links.heads) (wire_of one gate % length links.heads) (length gates) _ (omega arith)
-              (linked.heads (wire_of one gate % length links.heads) (let s : 0 < length links.heads = linked.some in omega arith))))))
+              subst (λ (g : Gate). IsLastIn (length links.heads) (bucket_of (length links.heads) (wire_of one g)) (gates ++ gate ∷ []) p (side_at one (links.before ++ before ∷ []) p)) (sym gate_is)
+              (subst (λ (s : Sides). IsLastIn (length links.heads) (bucket_of (length links.heads) (wire_of one gate)) (gates ++ gate ∷ []) p (side one s)) (sym there)
+              (subst (λ (c : ℕ). IsLastIn (length links.heads) (bucket_of (length links.heads) (wire_of one gate)) (gates ++ gate ∷ []) p c) (sym (side_is one))
+              (subst (λ (q : ℕ). IsLastIn (length links.heads) (bucket_of (length links.heads) (wire_of one gate)) (gates ++ gate ∷ []) q (get_or links.heads (bucket_of (length links.heads) (wire_of one gate)) 0)) (sym same)
+              (last_in_more (length links.heads) (bucket_of (length links.heads) (wire_of one gate)) (length gates) _ (omega arith)
+              (linked.heads (bucket_of (length links.heads) (wire_of one gate)) (bucket_below (length links.heads) (wire_of one gate) linked.some))))))
       befores_more p one below (inr (inl less)) =
-          subst (λ (g : Gate). IsLastIn (length links.heads) (wire_of one g % length links.heads) (gates ++ gate ∷ []) p (side_at one (links.before ++ before ∷ []) p)) (sym (old_at p less))
-          (subst (λ (s : Sides). IsLastIn (length links.heads) (wire_of one (gate_at gates p) % length links.heads) (gates ++ gate ∷ []) p (side one s))
+          subst (λ (g : Gate). IsLastIn (length links.heads) (bucket_of (length links.heads) (wire_of one g)) (gates ++ gate ∷ []) p (side_at one (links.before ++ before ∷ []) p)) (sym (old_at p less))
+          (subst (λ (s : Sides). IsLastIn (length links.heads) (bucket_of (length links.heads) (wire_of one (gate_at gates p))) (gates ++ gate ∷ []) p (side one s))
           (sym (get_or-append links.before (before ∷ []) (record { first = 0; second = 0 }) p (let l : length links.before ≡ length gates = linked.befores in omega arith)))
-          (last_in_more (length links.heads) (wire_of one (gate_at gates p) % length links.heads) p _ (omega arith) (linked.before p one less)))
+          (last_in_more (length links.heads) (bucket_of (length links.heads) (wire_of one (gate_at gates p))) p _ (omega arith) (linked.before p one less)))
       befores_more p one below (inr (inr above)) = absurd (let l : length (gates ++ gate ∷ []) ≡ length gates + 1 = long in omega arith)
 
-      heads_long : length (set (set links.heads (wire_of false gate % buckets) (length gates)) (wire_of true gate % buckets) (length gates)) ≡ length links.heads
-      heads_long = length-set (set links.heads (wire_of false gate % buckets) (length gates)) (wire_of true gate % buckets) (length gates) ∙ length-set links.heads (wire_of false gate % buckets) (length gates)
+      heads_long : length (set (set links.heads (bucket_of buckets (wire_of false gate)) (length gates)) (bucket_of buckets (wire_of true gate)) (length gates)) ≡ length links.heads
+      heads_long = length-set (set links.heads (bucket_of buckets (wire_of false gate)) (length gates)) (bucket_of buckets (wire_of true gate)) (length gates) ∙ length-set links.heads (bucket_of buckets (wire_of false gate)) (length gates)
 
       heads_more : (k : ℕ) → k < length links.heads →
-          (k ≡ wire_of false gate % buckets) ⊎ ((k < wire_of false gate % buckets) ⊎ (wire_of false gate % buckets < k)) →
-          (k ≡ wire_of true gate % buckets) ⊎ ((k < wire_of true gate % buckets) ⊎ (wire_of true gate % buckets < k)) →
+          (k ≡ bucket_of buckets (wire_of false gate)) ⊎ ((k < bucket_of buckets (wire_of false gate)) ⊎ (bucket_of buckets (wire_of false gate) < k)) →
+          (k ≡ bucket_of buckets (wire_of true gate)) ⊎ ((k < bucket_of buckets (wire_of true gate)) ⊎ (bucket_of buckets (wire_of true gate) < k)) →
           IsLastIn (length links.heads) k (gates ++ gate ∷ []) (length (gates ++ gate ∷ []))
-          (get_or (set (set links.heads (wire_of false gate % buckets) (length gates)) (wire_of true gate % buckets) (length gates)) k 0)
+          (get_or (set (set links.heads (bucket_of buckets (wire_of false gate)) (length gates)) (bucket_of buckets (wire_of true gate)) (length gates)) k 0)
       heads_more k below _ (inl second) =
           subst (λ (c : ℕ). IsLastIn (length links.heads) k (gates ++ gate ∷ []) (length (gates ++ gate ∷ [])) c)
-          (sym (get_or-set_at (set links.heads (wire_of false gate % buckets) (length gates)) (wire_of true gate % buckets) k (length gates) 0 second
-          (let l : length (set links.heads (wire_of false gate % buckets) (length gates)) ≡ length links.heads = length-set links.heads (wire_of false gate % buckets) (length gates) in omega arith)))
-          (head_new (length links.heads) k true (ap (λ (b : ℕ). wire_of true gate % b) (sym are) ∙ sym second))
+          (sym (get_or-set_at (set links.heads (bucket_of buckets (wire_of false gate)) (length gates)) (bucket_of buckets (wire_of true gate)) k (length gates) 0 second
+          (let l : length (set links.heads (bucket_of buckets (wire_of false gate)) (length gates)) ≡ length links.heads = length-set links.heads (bucket_of buckets (wire_of false gate)) (length gates) in omega arith)))
+          (head_new (length links.heads) k true (ap (λ (b : ℕ). bucket_of b (wire_of true gate)) (sym are) ∙ sym second))
       heads_more k below (inl first) (inr not_second) =
           subst (λ (c : ℕ). IsLastIn (length links.heads) k (gates ++ gate ∷ []) (length (gates ++ gate ∷ [])) c)
-          (sym (get_or-set_other (set links.heads (wire_of false gate % buckets) (length gates)) (wire_of true gate % buckets) k (length gates) 0 (apart not_second)
-          ∙ get_or-set_at links.heads (wire_of false gate % buckets) k (length gates) 0 first (omega arith)))
-          (head_new (length links.heads) k false (ap (λ (b : ℕ). wire_of false gate % b) (sym are) ∙ sym first))
+          (sym (get_or-set_other (set links.heads (bucket_of buckets (wire_of false gate)) (length gates)) (bucket_of buckets (wire_of true gate)) k (length gates) 0 (apart not_second)
+          ∙ get_or-set_at links.heads (bucket_of buckets (wire_of false gate)) k (length gates) 0 first (omega arith)))
+          (head_new (length links.heads) k false (ap (λ (b : ℕ). bucket_of b (wire_of false gate)) (sym are) ∙ sym first))
         where
           apart : {a b : ℕ} → (a < b) ⊎ (b < a) → a ≢ b
           apart (inl less) same = omega arith
           apart (inr more) same = omega arith
       heads_more k below (inr not_first) (inr not_second) =
           subst (λ (c : ℕ). IsLastIn (length links.heads) k (gates ++ gate ∷ []) (length (gates ++ gate ∷ [])) c)
-          (sym (get_or-set_other (set links.heads (wire_of false gate % buckets) (length gates)) (wire_of true gate % buckets) k (length gates) 0 (apart not_second)
-          ∙ get_or-set_other links.heads (wire_of false gate % buckets) k (length gates) 0 (apart not_first)))
+          (sym (get_or-set_other (set links.heads (bucket_of buckets (wire_of false gate)) (length gates)) (bucket_of buckets (wire_of true gate)) k (length gates) 0 (apart not_second)
+          ∙ get_or-set_other links.heads (bucket_of buckets (wire_of false gate)) k (length gates) 0 (apart not_first)))
           (head_old (length links.heads) k (get_or links.heads k 0) few (linked.heads k below) neither)
         where
           apart : {a b : ℕ} → (a < b) ⊎ (b < a) → a ≢ b
           apart (inl less) same = omega arith
           apart (inr more) same = omega arith
 
-          neither : (one : Bool) → wire_of one gate % length links.heads ≢ k
-          neither true same = apart not_second (sym same ∙ ap (λ (b : ℕ). wire_of true gate % b) (sym are))
-          neither false same = apart not_first (sym same ∙ ap (λ (b : ℕ). wire_of false gate % b) (sym are))
+          neither : (one : Bool) → bucket_of (length links.heads) (wire_of one gate) ≢ k
+          neither true same = apart not_second (sym same ∙ ap (λ (b : ℕ). bucket_of b (wire_of true gate)) (sym are))
+          neither false same = apart not_first (sym same ∙ ap (λ (b : ℕ). bucket_of b (wire_of false gate)) (sym are))
 
       pub linked_more : (room : ℕ) → AreLinked (gates ++ gate ∷ []) (record {
         next = led ++ (record { first = far; second = far }) ∷ [];
         before = links.before ++ before ∷ [];
-        heads = set (set links.heads (wire_of false gate % buckets) (length gates)) (wire_of true gate % buckets) (length gates);
+        heads = set (set links.heads (bucket_of buckets (wire_of false gate)) (length gates)) (bucket_of buckets (wire_of true gate)) (length gates);
         room = room;
       })
       linked_more room = record {
@@ -290,11 +291,11 @@ module _ (gates : List Gate) (gate : Gate) where
         some = (let s : 0 < length links.heads = linked.some in let l = heads_long in omega (arith, heads_long));
         next = λ p one below. nexts_more p one below (cases_order p (length gates));
         before = λ p one below.
-            subst (λ (b : ℕ). IsLastIn b (wire_of one (gate_at (gates ++ gate ∷ []) p) % b) (gates ++ gate ∷ []) p (side_at one (links.before ++ before ∷ []) p)) (sym heads_long)
+            subst (λ (b : ℕ). IsLastIn b (bucket_of b (wire_of one (gate_at (gates ++ gate ∷ []) p))) (gates ++ gate ∷ []) p (side_at one (links.before ++ before ∷ []) p)) (sym heads_long)
             (befores_more p one below (cases_order p (length gates)));
         heads = λ k below.
-            subst (λ (b : ℕ). IsLastIn b k (gates ++ gate ∷ []) (length (gates ++ gate ∷ [])) (get_or (set (set links.heads (wire_of false gate % buckets) (length gates)) (wire_of true gate % buckets) (length gates)) k 0)) (sym heads_long)
-            (heads_more k (subst (λ (b : ℕ). k < b) heads_long below) (cases_order k (wire_of false gate % buckets)) (cases_order k (wire_of true gate % buckets)));
+            subst (λ (b : ℕ). IsLastIn b k (gates ++ gate ∷ []) (length (gates ++ gate ∷ [])) (get_or (set (set links.heads (bucket_of buckets (wire_of false gate)) (length gates)) (bucket_of buckets (wire_of true gate)) (length gates)) k 0)) (sym heads_long)
+            (heads_more k (subst (λ (b : ℕ). k < b) heads_long below) (cases_order k (bucket_of buckets (wire_of false gate))) (cases_order k (bucket_of buckets (wire_of true gate))));
       }
 
 -- The same, where the new links are equal to these.
@@ -302,20 +303,20 @@ pub pushed : (gates : List Gate) (gate : Gate) (old new : LinksView) (first seco
     AreLinked gates old → length gates < far → first ≡ wire_of false gate → second ≡ wire_of true gate →
     IsLastOn gates first (length gates) last_first → IsLastOn gates second (length gates) last_second →
     IsLed gates old.next mid last_first first (length gates) → IsLed gates mid led last_second second (length gates) → length led ≡ length gates →
-    buckets ≡ length old.heads → before.first ≡ get_or old.heads (first % buckets) 0 → before.second ≡ get_or old.heads (second % buckets) 0 →
+    buckets ≡ length old.heads → before.first ≡ get_or old.heads (bucket_of buckets first) 0 → before.second ≡ get_or old.heads (bucket_of buckets second) 0 →
     new.next ≡ led ++ (record { first = far; second = far }) ∷ [] → new.before ≡ old.before ++ before ∷ [] →
-    new.heads ≡ set (set old.heads (first % buckets) (length gates)) (second % buckets) (length gates) →
+    new.heads ≡ set (set old.heads (bucket_of buckets first) (length gates)) (bucket_of buckets second) (length gates) →
     AreLinked (gates ++ gate ∷ []) new
 pushed gates gate old new first second last_first last_second buckets mid led before linked few first_is second_is is_first is_second one_led other_led long are one_before other_before nexts befores heads =
     subst (λ (n : List Sides). AreLinked (gates ++ gate ∷ []) (record { next = n; before = new.before; heads = new.heads; room = new.room })) (sym nexts)
     (subst (λ (b : List Sides). AreLinked (gates ++ gate ∷ []) (record { next = led ++ (record { first = far; second = far }) ∷ []; before = b; heads = new.heads; room = new.room })) (sym befores)
     (subst (λ (h : List ℕ). AreLinked (gates ++ gate ∷ []) (record { next = led ++ (record { first = far; second = far }) ∷ []; before = old.before ++ before ∷ []; heads = h; room = new.room }))
-    (sym (heads ∙ (ap (λ (w : ℕ). set (set old.heads (w % buckets) (length gates)) (second % buckets) (length gates)) first_is
-    ∙ ap (λ (w : ℕ). set (set old.heads (wire_of false gate % buckets) (length gates)) (w % buckets) (length gates)) second_is)))
+    (sym (heads ∙ (ap (λ (w : ℕ). set (set old.heads (bucket_of buckets w) (length gates)) (bucket_of buckets second) (length gates)) first_is
+    ∙ ap (λ (w : ℕ). set (set old.heads (bucket_of buckets (wire_of false gate)) (length gates)) (bucket_of buckets w) (length gates)) second_is)))
     (linked_more gates gate old linked few last_first last_second mid led
     (subst (λ (w : ℕ). IsLastOn gates w (length gates) last_first) first_is is_first) (subst (λ (w : ℕ). IsLastOn gates w (length gates) last_second) second_is is_second)
     (subst (λ (w : ℕ). IsLed gates old.next mid last_first w (length gates)) first_is one_led) (subst (λ (w : ℕ). IsLed gates mid led last_second w (length gates)) second_is other_led)
-    before buckets are (one_before ∙ ap (λ (w : ℕ). get_or old.heads (w % buckets) 0) first_is) (other_before ∙ ap (λ (w : ℕ). get_or old.heads (w % buckets) 0) second_is) long new.room)))
+    before buckets are (one_before ∙ ap (λ (w : ℕ). get_or old.heads (bucket_of buckets w) 0) first_is) (other_before ∙ ap (λ (w : ℕ). get_or old.heads (bucket_of buckets w) 0) second_is) long new.room)))
 
 -- what is left of a list whose whole front was written
 pub all_written : {X : Type 0} (n : ℕ) (xs ys : List X) → n ≡ length xs → take n (xs ++ drop (length xs) ys) ≡ xs

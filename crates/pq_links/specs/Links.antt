@@ -1,5 +1,5 @@
 -- The neighbours of gates on their wires.
-use Rattle.std.specs.Prelude.{◌≡◌, ◌≢◌, ℕ, ◌+◌, ◌%◌, ◌<◌, ◌≤◌, Bool, cond, List, length, slice_index, slice_index_or}
+use Rattle.std.specs.Prelude.{◌≡◌, ◌≢◌, ℕ, ◌+◌, ◌-◌, ◌<◌, ◌≤◌, Bool, cond, List, bit_and, length, slice_index, slice_index_or}
 use Rattle.pq_gate.specs.declared.gate.Gate.{Gate}
 use Rattle.pq_gate.specs.Commuting.{Touches}
 use Rattle.pq_links.specs.declared.links.Sides.{Sides}
@@ -24,11 +24,14 @@ pub record IsNextOn (gates : List Gate) (wire from place : ℕ) : Type 0 where
   pub none : (p : ℕ) → from ≤ p → p < place → p < length gates → ¬ Touches (gate_at gates p) wire
   pub past : length gates ≤ place → place ≡ far
 
--- The greatest place before the bound with a wire in the bucket, or `far` where there is none. A wire is in the
--- bucket of its remainder.
+-- the bucket of a wire, by its low bits where there are as many buckets as a power of two
+abbrev pub bucket_of : ℕ → ℕ → ℕ
+bucket_of buckets wire = bit_and wire (buckets - 1)
+
+-- The greatest place before the bound with a wire in the bucket, or `far` where there is none.
 pub record IsLastIn (buckets bucket : ℕ) (gates : List Gate) (bound place : ℕ) : Type 0 where
-  pub «in» : place < bound → (one : Bool) × (wire_of one (gate_at gates place) % buckets ≡ bucket)
-  pub none : (p : ℕ) → p < bound → (place < bound → place < p) → (one : Bool) → wire_of one (gate_at gates p) % buckets ≢ bucket
+  pub «in» : place < bound → (one : Bool) × (bucket_of buckets (wire_of one (gate_at gates place)) ≡ bucket)
+  pub none : (p : ℕ) → p < bound → (place < bound → place < p) → (one : Bool) → bucket_of buckets (wire_of one (gate_at gates p)) ≢ bucket
   pub past : bound ≤ place → place ≡ far
 
 -- The last place before the bound whose gate uses the wire, or `far` where there is none.
@@ -40,7 +43,7 @@ pub record IsLastOn (gates : List Gate) (wire bound place : ℕ) : Type 0 where
 -- each gate knows for each of its wires the last place before it in the wire's bucket
 abbrev pub AreBefore : ℕ → List Gate → List Sides → Type 0
 AreBefore buckets gates before = (p : ℕ) (one : Bool) → p < length gates →
-    IsLastIn buckets (wire_of one (gate_at gates p) % buckets) gates p (side_at one before p)
+    IsLastIn buckets (bucket_of buckets (wire_of one (gate_at gates p))) gates p (side_at one before p)
 
 -- each bucket knows the last place in it
 abbrev pub AreHeads : List Gate → List ℕ → Type 0

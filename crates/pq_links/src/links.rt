@@ -1,4 +1,4 @@
-ghost use Rattle.std.specs.Prelude.{◌≡◌, ◌≢◌, ℕ, ◌+◌, ◌%◌, ◌<◌, ◌≤◌, [], ◌∷◌, ◌++◌, Bool, true, false, length, slice_index, IfOk};
+ghost use Rattle.std.specs.Prelude.{◌≡◌, ◌≢◌, ℕ, ◌+◌, ◌*◌, ◌<◌, ◌≤◌, [], ◌∷◌, ◌++◌, Bool, true, false, length, slice_index, IfOk};
 ghost use Rattle.pq_gate.specs.Commuting.{Touches};
 ghost use Rattle.pq_links.specs.Wires.{wire_of};
 ghost use Rattle.pq_links.specs.Places.{gate_at};
@@ -24,27 +24,27 @@ pub struct Sides {
 }
 
 /// The links of a list of gates: for each gate and each of its wires the next place on that wire. Gates are
-/// appended in constant expected time: wires go into buckets by their remainders, and each gate knows the
+/// appended in constant expected time: wires go into buckets by their low bits, and each gate knows the
 /// last place before it in the bucket of each of its wires. Memory is taken once.
 #[derive(Drop)]
 pub struct Links {
     next: Vec<Sides>,
     before: Vec<Sides>,
 
-    // for each bucket the last place in it
+    // for each bucket the last place in it; as many as a power of two
     heads: Vec<u16>,
     asked: u32,
 }
 
 impl Model for Links {
-    ghost use Rattle.std.specs.Prelude.{◌≤◌, ◌<◌, vec_len, vec_capacity};
+    ghost use Rattle.std.specs.Prelude.{◌*◌, ◌≤◌, ◌<◌, vec_len, vec_capacity};
     ghost use Rattle.pq_links.specs.Links.{LinksView, far};
 
     ghost Value = { LinksView };
 
     ghost view = { λ a. record { next = a.next.items; before = a.before.items; heads = a.heads.items; room = a.asked } };
 
-    ghost invariant = { λ a. (a.asked ≤ vec_capacity a.next) × (a.asked ≤ vec_capacity a.before) × (a.asked < far) × (0 < vec_len a.heads) × (vec_len a.heads ≤ far) };
+    ghost invariant = { λ a. (a.asked ≤ vec_capacity a.next) × (a.asked ≤ vec_capacity a.before) × (a.asked < far) × (0 < vec_len a.heads) × (vec_len a.heads ≤ 2 * far) };
 }
 
 impl Links {
@@ -56,7 +56,8 @@ impl Links {
     {
         let next = Vec::with_capacity(alloc, room as usize)?;
         let before = Vec::with_capacity(alloc, room as usize)?;
-        let heads = Vec::from_elem(alloc, FAR as u16, room.max(1) as usize)?;
+        let buckets = room.max(1).next_power_of_two() as usize;
+        let heads = Vec::from_elem(alloc, FAR as u16, buckets)?;
         Ok(Links {
             next,
             before,
@@ -96,9 +97,9 @@ impl Links {
             first: FAR as u16,
             second: FAR as u16,
         });
-        let buckets = heads.len() as u32;
-        let one = (first % buckets) as usize;
-        let other = (second % buckets) as usize;
+        let mask = heads.len() as u32 - 1;
+        let one = (first & mask) as usize;
+        let other = (second & mask) as usize;
         self.before.push_reserved(Sides {
             first: heads[one],
             second: heads[other],
@@ -180,14 +181,14 @@ pub(crate) fn side_on(gates: &[Gate], sides: &[Sides], place: u32, wire: u32) ->
 fn last_on(gates: &[Gate], before: &[Sides], heads: &[u16], wire: u32) -> u32
     requires few { length gates.now < FAR }
     requires some { 0 < length heads.now }
-    requires buckets { length heads.now ≤ FAR }
+    requires buckets { length heads.now ≤ 2 * FAR }
     requires befores { length before.now ≡ length gates.now }
     requires before { AreBefore (length heads.now) gates.now before.now }
     requires heads { AreHeads gates.now heads.now }
     ensures { IsLastOn gates.now wire (length gates.now) result }
 {
-    let buckets = heads.len() as u32;
-    let bucket = wire % buckets;
+    let mask = heads.len() as u32 - 1;
+    let bucket = wire & mask;
     let mut place = heads[bucket as usize] as u32;
     'back: while (place as usize) < gates.len() {
         let first = gates[place as usize].first_wire();
@@ -196,7 +197,7 @@ fn last_on(gates: &[Gate], before: &[Sides], heads: &[u16], wire: u32) -> u32
             return place;
         }
         let earlier = before[place as usize];
-        place = if first % buckets == bucket {
+        place = if first & mask == bucket {
             earlier.first as u32
         } else {
             earlier.second as u32

@@ -1,18 +1,18 @@
-use Rattle.std.proofs.Common.{◌%◌, false, true, ap, subst, ◌∙◌, length, sym, arith}
-use Rattle.pq_links.specs.Links.{side_at, IsLastIn}
+use Rattle.std.proofs.Common.{false, true, ap, subst, ◌∙◌, length, sym}
+use Rattle.pq_links.specs.Links.{bucket_of, side_at, IsLastIn}
 use Rattle.pq_links.specs.Places.{gate_at}
-use Rattle.pq_links.proofs.Buckets.{back_starts, back_more, other_side, uses_neither, earlier_less}
+use Rattle.pq_links.proofs.Buckets.{bucket_below, back_starts, back_more, other_side, uses_neither, earlier_less}
 use Rattle.pq_links.proofs.links.last_on.Goals as goal
 
 pub back-init : goal.back-init
-back-init c = back_starts c.args.wire _ (c.requires.heads (c.args.wire % length c.args.heads.now) (omega arith))
+back-init c = back_starts c.args.wire _ (c.requires.heads (bucket_of (length c.args.heads.now) c.args.wire) (bucket_below _ c.args.wire c.requires.some))
 
-pub back-preserved-then-first-buckets : goal.back-preserved-then-first-buckets
-back-preserved-then-first-buckets c =
+pub back-preserved-then-first-mask : goal.back-preserved-then-first-mask
+back-preserved-then-first-mask c =
     back_more (length c.args.heads.now) c.args.gates.now c.args.wire c.back.place _ c.requires.few c.back.invariant c.back-test.true
     (uses_neither (gate_at c.args.gates.now c.back.place) c.args.wire _ _ c.first_wire-first.ensures c.last_wire-second.ensures c.if-first-wire.false c.if-second-wire.false)
     (subst (λ k. IsLastIn (length c.args.heads.now) k c.args.gates.now c.back.place (side_at false c.args.before.now c.back.place))
-    (ap (λ w. w % length c.args.heads.now) (sym c.first_wire-first.ensures) ∙ c.if-first-buckets.true)
+    (ap (λ w. bucket_of (length c.args.heads.now) w) (sym c.first_wire-first.ensures) ∙ c.if-first-mask.true)
     (c.requires.before c.back.place false c.back-test.true))
 
 pub back-preserved : goal.back-preserved
@@ -20,9 +20,9 @@ back-preserved c =
     back_more (length c.args.heads.now) c.args.gates.now c.args.wire c.back.place _ c.requires.few c.back.invariant c.back-test.true
     (uses_neither (gate_at c.args.gates.now c.back.place) c.args.wire _ _ c.first_wire-first.ensures c.last_wire-second.ensures c.if-first-wire.false c.if-second-wire.false)
     (subst (λ k. IsLastIn (length c.args.heads.now) k c.args.gates.now c.back.place (side_at true c.args.before.now c.back.place))
-    (other_side (length c.args.heads.now) (c.args.wire % length c.args.heads.now) (gate_at c.args.gates.now c.back.place) (c.back.invariant.«in» c.back-test.true)
-    (λ same. c.if-first-buckets.false (ap (λ w. w % length c.args.heads.now) c.first_wire-first.ensures ∙ same)))
+    (other_side (length c.args.heads.now) (bucket_of (length c.args.heads.now) c.args.wire) (gate_at c.args.gates.now c.back.place) (c.back.invariant.«in» c.back-test.true)
+    (λ same. c.if-first-mask.false (ap (λ w. bucket_of (length c.args.heads.now) w) c.first_wire-first.ensures ∙ same)))
     (c.requires.before c.back.place true c.back-test.true))
 
-pub back-smaller-then-first-buckets : goal.back-smaller-then-first-buckets
-back-smaller-then-first-buckets c = earlier_less c.requires.few c.back-test.true (c.requires.before c.back.place false c.back-test.true)
+pub back-smaller-then-first-mask : goal.back-smaller-then-first-mask
+back-smaller-then-first-mask c = earlier_less c.requires.few c.back-test.true (c.requires.before c.back.place false c.back-test.true)
