@@ -13,12 +13,8 @@ use Rattle.pq_links.specs.Wires.{wire_of}
 use Rattle.pq_links.specs.Places.{gate_at}
 use Rattle.pq_links.specs.Links.{bucket_of, side, side_at, far, IsNextOn, IsLastIn, IsLastOn, LinksView, AreLinked}
 use Rattle.pq_links.proofs.Buckets.{bucket_below}
-use Rattle.pq_links.proofs.Touching.{touched, touching}
-
--- the last gate on a wire is led on to a place
-pub record IsLed (gates : List Gate) (old new : List Sides) (last wire place : ℕ) : Type 0 where
-  pub led : (one : Bool) → last < length gates → wire_of one (gate_at gates last) ≡ wire → side_at one new last ≡ place
-  pub others : (p : ℕ) (one : Bool) → (p ≡ last → wire_of one (gate_at gates p) ≡ wire → ⊥) → side_at one new p ≡ side_at one old p
+use Rattle.pq_links.specs.Leading.{IsLedAt, AreLed}
+use Rattle.pq_links.proofs.Touching.{touching, on_which}
 
 module _ (gates : List Gate) (gate : Gate) where
   long : length (gates ++ gate ∷ []) ≡ length gates + 1
@@ -114,13 +110,23 @@ module _ (gates : List Gate) (gate : Gate) where
           (last.none p less (λ low. behind (let l : length (gates ++ gate ∷ []) ≡ length gates + 1 = long in omega arith)))
       none p below behind (inr (inr above)) = (let l : length (gates ++ gate ∷ []) ≡ length gates + 1 = long in absurd (omega arith))
 
-  module _ (links : LinksView) (linked : AreLinked gates links) (few : length gates < far) (last_first last_second : ℕ) (mid led : List Sides)
-      (is_first : IsLastOn gates (wire_of false gate) (length gates) last_first) (is_second : IsLastOn gates (wire_of true gate) (length gates) last_second)
-      (one_led : IsLed gates links.next mid last_first (wire_of false gate) (length gates))
-      (other_led : IsLed gates mid led last_second (wire_of true gate) (length gates)) where
+  -- the last place on a wire before a bound
+  last_more : (wire bound c : ℕ) → bound ≤ length gates → IsLastOn gates wire bound c → IsLastOn (gates ++ gate ∷ []) wire bound c
+  last_more wire bound c upto last = record {
+    uses = λ less. subst (λ (g : Gate). Touches g wire) (sym (old_at c (omega arith))) (last.uses less);
+    none = λ p below behind. subst (λ (g : Gate). ¬ Touches g wire) (sym (old_at p (omega arith))) (last.none p below behind);
+    past = last.past;
+  }
+
+  module _ (links : LinksView) (linked : AreLinked gates links) (few : length gates < far) (last : Sides) (led : List Sides)
+      (is_last : (b : Bool) → IsLastOn gates (wire_of b gate) (length gates) (side b last))
+      (are_led : AreLed gates gate last (record { first = length gates; second = length gates }) links.next led) where
+    nexts : length led ≡ length gates
+    nexts = are_led.long ∙ linked.nexts
+
     -- the next place on a wire of an old gate
     next_of : (p : ℕ) (one : Bool) → p < length gates → IsNextOn (gates ++ gate ∷ []) (wire_of one (gate_at gates p)) (p + 1) (side_at one led p)
-    next_of p one below = by (cases_order (wire_of one (gate_at gates p)) (wire_of false gate)) (cases_order (wire_of one (gate_at gates p)) (wire_of true gate)) (cases_order p last_first) (cases_order p last_second)
+    next_of p one below = by (are_led.each p one below)
       where
         old : IsNextOn gates (wire_of one (gate_at gates p)) (p + 1) (side_at one links.next p)
         old = linked.next p one below
@@ -143,52 +149,44 @@ module _ (gates : List Gate) (gate : Gate) where
             (touching (gate_at gates p) one) old other in
             next_old (wire_of one (gate_at gates p)) p (side_at one links.next p) few old (λ above. absurd (omega arith))
 
-        unled : wire_of one (gate_at gates p) ≢ wire_of false gate → wire_of one (gate_at gates p) ≢ wire_of true gate →
+        here : (b : Bool) → side b (record { first = length gates; second = length gates }) ≡ length gates
+        here true = refl
+        here false = refl
+
+        by : ((b : Bool) × IsLedAt gates gate last one p b × (side_at one led p ≡ side b (record { first = length gates; second = length gates })))
+            ⊎ (((b : Bool) → ¬ IsLedAt gates gate last one p b) × (side_at one led p ≡ side_at one links.next p)) →
             IsNextOn (gates ++ gate ∷ []) (wire_of one (gate_at gates p)) (p + 1) (side_at one led p)
-        unled not_first not_second =
-            at (other_led.others p one (λ here same. not_second same) ∙ one_led.others p one (λ here same. not_first same))
-            (next_old (wire_of one (gate_at gates p)) p (side_at one links.next p) few old (λ above uses.
-            (let w = touched gate (wire_of one (gate_at gates p)) uses in neither w)))
+        by (inl (b, is_led, noted)) = at (noted ∙ here b) (to_new (side b last) b is_led.on is_led.here (is_last b))
+        by (inr (none, kept)) = at kept (still (on_which gate (wire_of one (gate_at gates p))))
           where
-            neither : (b : Bool) × (wire_of one (gate_at gates p) ≡ wire_of b gate) → ⊥
-            neither (false, is) = not_first is
-            neither (true, is) = not_second is
+            still : ((b : Bool) × (wire_of one (gate_at gates p) ≡ wire_of b gate)) ⊎ (¬ Touches gate (wire_of one (gate_at gates p))) →
+                IsNextOn (gates ++ gate ∷ []) (wire_of one (gate_at gates p)) (p + 1) (side_at one links.next p)
+            still (inl (b, on)) = to_old (side b last) b on (λ same. none b (record { here = same; on = on })) (is_last b)
+            still (inr unused) = next_old (wire_of one (gate_at gates p)) p (side_at one links.next p) few old (λ above. unused)
 
-        apart : {a b : ℕ} → (a < b) ⊎ (b < a) → a ≢ b
-        apart (inl less) same = omega arith
-        apart (inr more) same = omega arith
+    previouses_more : (p : ℕ) (one : Bool) → p < length (gates ++ gate ∷ []) → (p ≡ length gates) ⊎ ((p < length gates) ⊎ (length gates < p)) →
+        IsLastOn (gates ++ gate ∷ []) (wire_of one (gate_at (gates ++ gate ∷ []) p)) p (side_at one (links.previous ++ last ∷ []) p)
+    previouses_more p one below (inl same) =
+        subst (λ (g : Gate). IsLastOn (gates ++ gate ∷ []) (wire_of one g) p (side_at one (links.previous ++ last ∷ []) p)) (sym gate_is)
+        (subst (λ (s : Sides). IsLastOn (gates ++ gate ∷ []) (wire_of one gate) p (side one s)) (sym there)
+        (subst (λ (q : ℕ). IsLastOn (gates ++ gate ∷ []) (wire_of one gate) q (side one last)) (sym same)
+        (last_more (wire_of one gate) (length gates) (side one last) (omega arith) (is_last one))))
+      where
+        there : get_or (links.previous ++ last ∷ []) p (record { first = 0; second = 0 }) ≡ last
+        there = ap (λ (k : ℕ). get_or (links.previous ++ last ∷ []) k (record { first = 0; second = 0 })) (same ∙ sym linked.previouses) ∙ get_or-append_seam links.previous last [] (record { first = 0; second = 0 })
 
-        by : (wire_of one (gate_at gates p) ≡ wire_of false gate) ⊎ ((wire_of one (gate_at gates p) < wire_of false gate) ⊎ (wire_of false gate < wire_of one (gate_at gates p))) →
-            (wire_of one (gate_at gates p) ≡ wire_of true gate) ⊎ ((wire_of one (gate_at gates p) < wire_of true gate) ⊎ (wire_of true gate < wire_of one (gate_at gates p))) →
-            (p ≡ last_first) ⊎ ((p < last_first) ⊎ (last_first < p)) → (p ≡ last_second) ⊎ ((p < last_second) ⊎ (last_second < p)) →
-            IsNextOn (gates ++ gate ∷ []) (wire_of one (gate_at gates p)) (p + 1) (side_at one led p)
-        by _ (inl second) _ (inl here) =
-            at (ap (λ (q : ℕ). side_at one led q) here ∙ other_led.led one (subst (λ (q : ℕ). q < length gates) here below) (ap (λ (q : ℕ). wire_of one (gate_at gates q)) (sym here) ∙ second))
-            (to_new last_second true second here is_second)
-        by (inl first) (inl second) (inl here) (inr there) =
-            at (other_led.others p one (λ same _. apart there same) ∙ (ap (λ (q : ℕ). side_at one mid q) here ∙ one_led.led one (subst (λ (q : ℕ). q < length gates) here below) (ap (λ (q : ℕ). wire_of one (gate_at gates q)) (sym here) ∙ first)))
-            (to_new last_first false first here is_first)
-        by (inl first) (inr not_second) (inl here) _ =
-            at (other_led.others p one (λ _ same. apart not_second same) ∙ (ap (λ (q : ℕ). side_at one mid q) here ∙ one_led.led one (subst (λ (q : ℕ). q < length gates) here below) (ap (λ (q : ℕ). wire_of one (gate_at gates q)) (sym here) ∙ first)))
-            (to_new last_first false first here is_first)
-        by (inl first) (inl second) (inr not_here) (inr there) =
-            at (other_led.others p one (λ same _. apart there same) ∙ one_led.others p one (λ same _. apart not_here same))
-            (to_old last_first false first (apart not_here) is_first)
-        by (inl first) (inr not_second) (inr not_here) _ =
-            at (other_led.others p one (λ _ same. apart not_second same) ∙ one_led.others p one (λ same _. apart not_here same))
-            (to_old last_first false first (apart not_here) is_first)
-        by (inr not_first) (inl second) _ (inr there) =
-            at (other_led.others p one (λ same _. apart there same) ∙ one_led.others p one (λ _ same. apart not_first same))
-            (to_old last_second true second (apart there) is_second)
-        by (inr not_first) (inr not_second) _ _ = unled (apart not_first) (apart not_second)
+        gate_is : gate_at (gates ++ gate ∷ []) p ≡ gate
+        gate_is = ap (λ (k : ℕ). gate_at (gates ++ gate ∷ []) k) same ∙ new_at
+    previouses_more p one below (inr (inl less)) =
+        subst (λ (g : Gate). IsLastOn (gates ++ gate ∷ []) (wire_of one g) p (side_at one (links.previous ++ last ∷ []) p)) (sym (old_at p less))
+        (subst (λ (s : Sides). IsLastOn (gates ++ gate ∷ []) (wire_of one (gate_at gates p)) p (side one s))
+        (sym (get_or-append links.previous (last ∷ []) (record { first = 0; second = 0 }) p (let l : length links.previous ≡ length gates = linked.previouses in omega arith)))
+        (last_more (wire_of one (gate_at gates p)) p _ (omega arith) (linked.previous p one less)))
+    previouses_more p one below (inr (inr above)) = absurd (let l : length (gates ++ gate ∷ []) ≡ length gates + 1 = long in omega arith)
 
     module _ (before : Sides) (buckets : ℕ) (are : buckets ≡ length links.heads)
         (one_before : before.first ≡ get_or links.heads (bucket_of buckets (wire_of false gate)) 0)
-        (other_before : before.second ≡ get_or links.heads (bucket_of buckets (wire_of true gate)) 0)
-        (nexts : length led ≡ length gates) where
-      sides_long : length led ≡ length gates
-      sides_long = nexts
-
+        (other_before : before.second ≡ get_or links.heads (bucket_of buckets (wire_of true gate)) 0) where
       nexts_more : (p : ℕ) (one : Bool) → p < length (gates ++ gate ∷ []) → (p ≡ length gates) ⊎ ((p < length gates) ⊎ (length gates < p)) →
           IsNextOn (gates ++ gate ∷ []) (wire_of one (gate_at (gates ++ gate ∷ []) p)) (p + 1) (side_at one (led ++ (record { first = far; second = far }) ∷ []) p)
       nexts_more p one below (inl same) =
@@ -281,15 +279,18 @@ module _ (gates : List Gate) (gate : Gate) where
 
       pub linked_more : (room : ℕ) → AreLinked (gates ++ gate ∷ []) (record {
         next = led ++ (record { first = far; second = far }) ∷ [];
+        previous = links.previous ++ last ∷ [];
         before = links.before ++ before ∷ [];
         heads = set (set links.heads (bucket_of buckets (wire_of false gate)) (length gates)) (bucket_of buckets (wire_of true gate)) (length gates);
         room = room;
       })
       linked_more room = record {
         nexts = length-append led ((record { first = far; second = far }) ∷ []) ∙ (let l : length led ≡ length gates = nexts in let m : length (gates ++ gate ∷ []) ≡ length gates + 1 = long in let e : length led + 1 ≡ length (gates ++ gate ∷ []) = omega arith in e);
+        previouses = length-append links.previous (last ∷ []) ∙ (let l : length links.previous ≡ length gates = linked.previouses in let m : length (gates ++ gate ∷ []) ≡ length gates + 1 = long in let e : length links.previous + 1 ≡ length (gates ++ gate ∷ []) = omega arith in e);
         befores = length-append links.before (before ∷ []) ∙ (let l : length links.before ≡ length gates = linked.befores in let m : length (gates ++ gate ∷ []) ≡ length gates + 1 = long in let e : length links.before + 1 ≡ length (gates ++ gate ∷ []) = omega arith in e);
         some = (let s : 0 < length links.heads = linked.some in let l = heads_long in omega (arith, heads_long));
         next = λ p one below. nexts_more p one below (cases_order p (length gates));
+        previous = λ p one below. previouses_more p one below (cases_order p (length gates));
         before = λ p one below.
             subst (λ (b : ℕ). IsLastIn b (bucket_of b (wire_of one (gate_at (gates ++ gate ∷ []) p))) (gates ++ gate ∷ []) p (side_at one (links.before ++ before ∷ []) p)) (sym heads_long)
             (befores_more p one below (cases_order p (length gates)));
@@ -299,24 +300,27 @@ module _ (gates : List Gate) (gate : Gate) where
       }
 
 -- The same, where the new links are equal to these.
-pub pushed : (gates : List Gate) (gate : Gate) (old new : LinksView) (first second last_first last_second buckets : ℕ) (mid led : List Sides) (before : Sides) →
+pub pushed : (gates : List Gate) (gate : Gate) (old new : LinksView) (first second buckets : ℕ) (last : Sides) (led : List Sides) (before : Sides) →
     AreLinked gates old → length gates < far → first ≡ wire_of false gate → second ≡ wire_of true gate →
-    IsLastOn gates first (length gates) last_first → IsLastOn gates second (length gates) last_second →
-    IsLed gates old.next mid last_first first (length gates) → IsLed gates mid led last_second second (length gates) → length led ≡ length gates →
+    IsLastOn gates (wire_of false gate) (length gates) last.first → IsLastOn gates (wire_of true gate) (length gates) last.second →
+    AreLed gates gate last (record { first = length gates; second = length gates }) old.next led →
     buckets ≡ length old.heads → before.first ≡ get_or old.heads (bucket_of buckets first) 0 → before.second ≡ get_or old.heads (bucket_of buckets second) 0 →
-    new.next ≡ led ++ (record { first = far; second = far }) ∷ [] → new.before ≡ old.before ++ before ∷ [] →
+    new.next ≡ led ++ (record { first = far; second = far }) ∷ [] → new.previous ≡ old.previous ++ last ∷ [] → new.before ≡ old.before ++ before ∷ [] →
     new.heads ≡ set (set old.heads (bucket_of buckets first) (length gates)) (bucket_of buckets second) (length gates) →
     AreLinked (gates ++ gate ∷ []) new
-pushed gates gate old new first second last_first last_second buckets mid led before linked few first_is second_is is_first is_second one_led other_led long are one_before other_before nexts befores heads =
-    subst (λ (n : List Sides). AreLinked (gates ++ gate ∷ []) (record { next = n; before = new.before; heads = new.heads; room = new.room })) (sym nexts)
-    (subst (λ (b : List Sides). AreLinked (gates ++ gate ∷ []) (record { next = led ++ (record { first = far; second = far }) ∷ []; before = b; heads = new.heads; room = new.room })) (sym befores)
-    (subst (λ (h : List ℕ). AreLinked (gates ++ gate ∷ []) (record { next = led ++ (record { first = far; second = far }) ∷ []; before = old.before ++ before ∷ []; heads = h; room = new.room }))
+pushed gates gate old new first second buckets last led before linked few first_is second_is is_first is_second are_led are one_before other_before nexts previouses befores heads =
+    subst (λ (n : List Sides). AreLinked (gates ++ gate ∷ []) (record { next = n; previous = new.previous; before = new.before; heads = new.heads; room = new.room })) (sym nexts)
+    (subst (λ (l : List Sides). AreLinked (gates ++ gate ∷ []) (record { next = led ++ (record { first = far; second = far }) ∷ []; previous = l; before = new.before; heads = new.heads; room = new.room })) (sym previouses)
+    (subst (λ (b : List Sides). AreLinked (gates ++ gate ∷ []) (record { next = led ++ (record { first = far; second = far }) ∷ []; previous = old.previous ++ last ∷ []; before = b; heads = new.heads; room = new.room })) (sym befores)
+    (subst (λ (h : List ℕ). AreLinked (gates ++ gate ∷ []) (record { next = led ++ (record { first = far; second = far }) ∷ []; previous = old.previous ++ last ∷ []; before = old.before ++ before ∷ []; heads = h; room = new.room }))
     (sym (heads ∙ (ap (λ (w : ℕ). set (set old.heads (bucket_of buckets w) (length gates)) (bucket_of buckets second) (length gates)) first_is
     ∙ ap (λ (w : ℕ). set (set old.heads (bucket_of buckets (wire_of false gate)) (length gates)) (bucket_of buckets w) (length gates)) second_is)))
-    (linked_more gates gate old linked few last_first last_second mid led
-    (subst (λ (w : ℕ). IsLastOn gates w (length gates) last_first) first_is is_first) (subst (λ (w : ℕ). IsLastOn gates w (length gates) last_second) second_is is_second)
-    (subst (λ (w : ℕ). IsLed gates old.next mid last_first w (length gates)) first_is one_led) (subst (λ (w : ℕ). IsLed gates mid led last_second w (length gates)) second_is other_led)
-    before buckets are (one_before ∙ ap (λ (w : ℕ). get_or old.heads (bucket_of buckets w) 0) first_is) (other_before ∙ ap (λ (w : ℕ). get_or old.heads (bucket_of buckets w) 0) second_is) long new.room)))
+    (linked_more gates gate old linked few last led both are_led before buckets are
+    (one_before ∙ ap (λ (w : ℕ). get_or old.heads (bucket_of buckets w) 0) first_is) (other_before ∙ ap (λ (w : ℕ). get_or old.heads (bucket_of buckets w) 0) second_is) new.room))))
+  where
+    both : (b : Bool) → IsLastOn gates (wire_of b gate) (length gates) (side b last)
+    both true = is_second
+    both false = is_first
 
 -- what is left of a list whose whole front was written
 pub all_written : {X : Type 0} (n : ℕ) (xs ys : List X) → n ≡ length xs → take n (xs ++ drop (length xs) ys) ≡ xs

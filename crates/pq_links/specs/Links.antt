@@ -49,10 +49,11 @@ AreBefore buckets gates before = (p : ℕ) (one : Bool) → p < length gates →
 abbrev pub AreHeads : List Gate → List ℕ → Type 0
 AreHeads gates heads = (k : ℕ) → k < length heads → IsLastIn (length heads) k gates (length gates) (slice_index heads k)
 
--- links of some gates: for each and each of its wires the next place on the wire, and the last place before it in the
--- wire's bucket; for each bucket the last place in it; and the room that was asked for
+-- links of some gates: for each and each of its wires the next and the previous place on the wire, and the last place before it
+-- in the wire's bucket; for each bucket the last place in it; and the room that was asked for
 pub record LinksView : Type 0 where
   pub next : List Sides
+  pub previous : List Sides
   pub before : List Sides
   pub heads : List ℕ
   pub room : ℕ
@@ -60,8 +61,10 @@ pub record LinksView : Type 0 where
 -- these are the links of the gates
 pub record AreLinked (gates : List Gate) (links : LinksView) : Type 0 where
   pub nexts : length links.next ≡ length gates
+  pub previouses : length links.previous ≡ length gates
   pub befores : length links.before ≡ length gates
   pub some : 0 < length links.heads
   pub next : (p : ℕ) (one : Bool) → p < length gates → IsNextOn gates (wire_of one (gate_at gates p)) (p + 1) (side_at one links.next p)
+  pub previous : (p : ℕ) (one : Bool) → p < length gates → IsLastOn gates (wire_of one (gate_at gates p)) p (side_at one links.previous p)
   pub before : AreBefore (length links.heads) gates links.before
   pub heads : AreHeads gates links.heads

@@ -4,6 +4,7 @@ ghost use Rattle.pq_links.specs.Wires.{wire_of};
 ghost use Rattle.pq_links.specs.Places.{gate_at};
 ghost use Rattle.pq_links.specs.Links.{side_at, IsNextOn, IsLastIn, IsLastOn, AreLinked, AreBefore, AreHeads};
 ghost use Rattle.pq_links.specs.Slots.{AreNext};
+ghost use Rattle.pq_links.specs.Leading.{AreLed};
 
 use pq_gate::Gate;
 use pq_list::OutOfMemory;
@@ -23,12 +24,15 @@ pub struct Sides {
     pub second: u16,
 }
 
-/// The links of a list of gates: for each gate and each of its wires the next place on that wire. Gates are
+/// The links of a list of gates: for each gate and each of its wires the next and the previous place on that wire. Gates are
 /// appended in constant expected time: wires go into buckets by their low bits, and each gate knows the
 /// last place before it in the bucket of each of its wires. Memory is taken once.
 #[derive(Drop)]
 pub struct Links {
     next: Vec<Sides>,
+    previous: Vec<Sides>,
+
+    // the last place before it in the bucket of each wire
     before: Vec<Sides>,
 
     // for each bucket the last place in it; as many as a power of two
@@ -42,9 +46,9 @@ impl Model for Links {
 
     ghost Value = { LinksView };
 
-    ghost view = { λ a. record { next = a.next.items; before = a.before.items; heads = a.heads.items; room = a.asked } };
+    ghost view = { λ a. record { next = a.next.items; previous = a.previous.items; before = a.before.items; heads = a.heads.items; room = a.asked } };
 
-    ghost invariant = { λ a. (a.asked ≤ vec_capacity a.next) × (a.asked ≤ vec_capacity a.before) × (a.asked < far) × (0 < vec_len a.heads) × (vec_len a.heads ≤ 2 * far) };
+    ghost invariant = { λ a. (a.asked ≤ vec_capacity a.next) × (a.asked ≤ vec_capacity a.previous) × (a.asked ≤ vec_capacity a.before) × (a.asked < far) × (0 < vec_len a.heads) × (vec_len a.heads ≤ 2 * far) };
 }
 
 impl Links {
@@ -55,11 +59,13 @@ impl Links {
         ensures room { IfOk result (λ made. made.room ≡ room) }
     {
         let next = Vec::with_capacity(alloc, room as usize)?;
+        let previous = Vec::with_capacity(alloc, room as usize)?;
         let before = Vec::with_capacity(alloc, room as usize)?;
         let buckets = room.max(1).next_power_of_two() as usize;
         let heads = Vec::from_elem(alloc, FAR as u16, buckets)?;
         Ok(Links {
             next,
+            previous,
             before,
             heads,
             asked: room,
@@ -72,6 +78,7 @@ impl Links {
         ensures room { self.new.room ≡ self.old.room }
     {
         self.next.clear();
+        self.previous.clear();
         self.before.clear();
         self.heads.as_mut_slice().fill(FAR as u16);
     }
@@ -83,29 +90,29 @@ impl Links {
         ensures linked { AreLinked (gates.now ++ gate ∷ []) self.new }
         ensures room { self.new.room ≡ self.old.room }
     {
-        let place = gates.len() as u32;
-        let first = gate.first_wire();
-        let second = gate.last_wire();
+        let place = gates.len() as u16;
         let before = self.before.as_slice();
         let heads = self.heads.as_slice();
-        let last_first = last_on(gates, before, heads, first);
-        let last_second = last_on(gates, before, heads, second);
-        let next = self.next.as_mut_slice();
-        lead(gates, next, last_first, first, place);
-        lead(gates, next, last_second, second, place);
+        let last = last_places(gates, before, heads, gate);
+        let here = Sides {
+            first: place,
+            second: place,
+        };
+        lead_both(gates, self.next.as_mut_slice(), gate, last, here);
         self.next.push_reserved(Sides {
             first: FAR as u16,
             second: FAR as u16,
         });
+        self.previous.push_reserved(last);
         let mask = heads.len() as u32 - 1;
-        let one = (first & mask) as usize;
-        let other = (second & mask) as usize;
+        let one = (gate.first_wire() & mask) as usize;
+        let other = (gate.last_wire() & mask) as usize;
         self.before.push_reserved(Sides {
             first: heads[one],
             second: heads[other],
         });
-        self.heads[one] = place as u16;
-        self.heads[other] = place as u16;
+        self.heads[one] = place;
+        self.heads[other] = place;
     }
 
     /// Becomes the links of these gates.
@@ -136,6 +143,13 @@ impl Links {
         ensures { result.now ≡ self.now.next }
     {
         self.next.as_slice()
+    }
+
+    /// For each gate and each of its wires the previous place on the wire, as `AreLinked` says it.
+    pub fn previouses(&self) -> &[Sides]
+        ensures { result.now ≡ self.now.previous }
+    {
+        self.previous.as_slice()
     }
 
     /// For each wire of the gate at the place the least later place whose gate uses it, or `FAR` where there is
@@ -177,6 +191,30 @@ pub(crate) fn side_on(gates: &[Gate], sides: &[Sides], place: u32, wire: u32) ->
     }
 }
 
+// the last places on the wires of a gate
+fn last_places(gates: &[Gate], before: &[Sides], heads: &[u16], gate: Gate) -> Sides
+    requires few { length gates.now < FAR }
+    requires some { 0 < length heads.now }
+    requires buckets { length heads.now ≤ 2 * FAR }
+    requires befores { length before.now ≡ length gates.now }
+    requires before { AreBefore (length heads.now) gates.now before.now }
+    requires heads { AreHeads gates.now heads.now }
+    ensures first { IsLastOn gates.now (wire_of false gate) (length gates.now) result.first }
+    ensures second { IsLastOn gates.now (wire_of true gate) (length gates.now) result.second }
+{
+    let wire = gate.first_wire();
+    let other = gate.last_wire();
+    let first = last_on(gates, before, heads, wire) as u16;
+    if wire == other {
+        return Sides {
+            first,
+            second: first,
+        };
+    }
+    let second = last_on(gates, before, heads, other) as u16;
+    Sides { first, second }
+}
+
 // the last place on the wire, or FAR where there is none
 fn last_on(gates: &[Gate], before: &[Sides], heads: &[u16], wire: u32) -> u32
     requires few { length gates.now < FAR }
@@ -185,14 +223,16 @@ fn last_on(gates: &[Gate], before: &[Sides], heads: &[u16], wire: u32) -> u32
     requires befores { length before.now ≡ length gates.now }
     requires before { AreBefore (length heads.now) gates.now before.now }
     requires heads { AreHeads gates.now heads.now }
-    ensures { IsLastOn gates.now wire (length gates.now) result }
+    ensures fits { result ≤ FAR }
+    ensures last { IsLastOn gates.now wire (length gates.now) result }
 {
     let mask = heads.len() as u32 - 1;
     let bucket = wire & mask;
     let mut place = heads[bucket as usize] as u32;
     'back: while (place as usize) < gates.len() {
-        let first = gates[place as usize].first_wire();
-        let second = gates[place as usize].last_wire();
+        let gate = gates[place as usize];
+        let first = gate.first_wire();
+        let second = gate.last_wire();
         if first == wire || second == wire {
             return place;
         }
@@ -206,16 +246,31 @@ fn last_on(gates: &[Gate], before: &[Sides], heads: &[u16], wire: u32) -> u32
     FAR
 }
 
+// leads on for both wires of a gate
+pub(crate) fn lead_both(slots: &[Gate], sides: &mut [Sides], gate: Gate, at: Sides, to: Sides)
+    requires { length sides.old ≡ length slots.now }
+    ensures { AreLed slots.now gate at to sides.old sides.new }
+{
+    let wire = gate.first_wire();
+    let other = gate.last_wire();
+    lead(slots, sides, at.first as u32, wire, to.first as u32);
+    if wire == other && at.first == at.second && to.first == to.second {
+        return;
+    }
+    lead(slots, sides, at.second as u32, other, to.second as u32);
+}
+
 // leads on from the last gate on the wire to this place
-pub(crate) fn lead(gates: &[Gate], next: &mut [Sides], last: u32, wire: u32, place: u32)
+fn lead(gates: &[Gate], next: &mut [Sides], last: u32, wire: u32, place: u32)
     requires fits { place ≤ FAR }
     requires long { length next.old ≡ length gates.now }
     ensures led { (one : Bool) → last < length gates.now → wire_of one (gate_at gates.now last) ≡ wire → side_at one next.new last ≡ place }
     ensures others { (p : ℕ) (one : Bool) → (p ≡ last → wire_of one (gate_at gates.now p) ≡ wire → ⊥) → side_at one next.new p ≡ side_at one next.old p }
 {
     if (last as usize) < gates.len() {
-        let first = gates[last as usize].first_wire();
-        let second = gates[last as usize].last_wire();
+        let gate = gates[last as usize];
+        let first = gate.first_wire();
+        let second = gate.last_wire();
         let sides = next[last as usize];
         let to = place as u16;
         next[last as usize] = Sides {

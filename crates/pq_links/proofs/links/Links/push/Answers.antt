@@ -1,23 +1,27 @@
-use Rattle.std.proofs.Common.{◌≡◌, ℕ, ◌++◌, ◌∷◌, [], ap, ◌∙◌, length, sym, arith, List, get_or, set}
+use Rattle.std.proofs.Common.{◌≡◌, ℕ, ◌++◌, ◌∷◌, [], ap, ◌∙◌, length, sym, subst, arith, List, get_or, set}
 use Rattle.pq_links.specs.declared.links.Sides.{Sides}
-use Rattle.pq_links.specs.Links.{bucket_of, side_at, far, LinksView}
+use Rattle.pq_links.specs.Links.{bucket_of, far, LinksView}
+use Rattle.pq_links.specs.Leading.{AreLed}
 use Rattle.pq_links.proofs.Pushing.{pushed, all_written}
 use Rattle.pq_links.proofs.links.Links.push.Goals as goal
 
 pub returns-clause-linked : goal.returns-clause-linked
 returns-clause-linked c =
     let room : c.args.self.now.room ≡ c.self.inside.asked = sym (ap (λ (v : LinksView). v.room) c.self.view_is) in
-    let nexts : length c.as_mut_slice-next.result.now ≡ length c.args.self.now.next = ap (λ (xs : List Sides). length xs) (c.as_mut_slice-next.ensures.value ∙ ap (λ (v : LinksView). v.next) c.self.view_is) in
-    pushed c.args.gates.now c.args.gate c.args.self.now _ c.first_wire-first.result c.last_wire-second.result c.last_on-last_first.result c.last_on-last_second.result
-    (length c.as_slice-heads.result.now) c.lead.new.next c.lead-2.new.next
-    (record { first = get_or c.as_slice-heads.result.now (bucket_of (length c.as_slice-heads.result.now) c.first_wire-first.result) 0; second = get_or c.as_slice-heads.result.now (bucket_of (length c.as_slice-heads.result.now) c.last_wire-second.result) 0 })
-    c.requires.linked (omega (arith, room)) c.first_wire-first.ensures c.last_wire-second.ensures c.last_on-last_first.ensures c.last_on-last_second.ensures
-    (record { led = c.lead.ensures.led; others = λ p one other. c.lead.ensures.others p one other ∙ ap (λ (xs : List Sides). side_at one xs p) (c.as_mut_slice-next.ensures.value ∙ ap (λ (v : LinksView). v.next) c.self.view_is) })
-    (record { led = c.lead-2.ensures.led; others = c.lead-2.ensures.others })
-    (omega (arith, nexts))
-    (ap (λ (xs : List ℕ). length xs) (c.as_slice-heads.ensures.value ∙ ap (λ (v : LinksView). v.heads) c.self.view_is))
-    (ap (λ (xs : List ℕ). get_or xs (bucket_of (length c.as_slice-heads.result.now) c.first_wire-first.result) 0) (c.as_slice-heads.ensures.value ∙ ap (λ (v : LinksView). v.heads) c.self.view_is))
-    (ap (λ (xs : List ℕ). get_or xs (bucket_of (length c.as_slice-heads.result.now) c.last_wire-second.result) 0) (c.as_slice-heads.ensures.value ∙ ap (λ (v : LinksView). v.heads) c.self.view_is))
-    (c.push_reserved.ensures.items ∙ ap (λ (xs : List Sides). xs ++ (record { first = far; second = far }) ∷ []) (all_written c.self.inside.next.len c.lead-2.new.next c.self.inside.next.items (omega (arith, nexts))))
-    (c.push_reserved-2.ensures.items ∙ ap (λ (xs : List Sides). xs ++ (record { first = get_or c.as_slice-heads.result.now (bucket_of (length c.as_slice-heads.result.now) c.first_wire-first.result) 0; second = get_or c.as_slice-heads.result.now (bucket_of (length c.as_slice-heads.result.now) c.last_wire-second.result) 0 }) ∷ []) (ap (λ (v : LinksView). v.before) c.self.view_is))
-    (ap (λ (xs : List ℕ). set (set xs (bucket_of (length c.as_slice-heads.result.now) c.first_wire-first.result) (length c.args.gates.now)) (bucket_of (length c.as_slice-heads.result.now) c.last_wire-second.result) (length c.args.gates.now)) (ap (λ (v : LinksView). v.heads) c.self.view_is))
+    let next_is : c.as_mut_slice.result.now ≡ c.args.self.now.next = c.as_mut_slice.ensures.value ∙ ap (λ (v : LinksView). v.next) c.self.view_is in
+    let heads_is : c.as_slice-heads.result.now ≡ c.args.self.now.heads = c.as_slice-heads.ensures.value ∙ ap (λ (v : LinksView). v.heads) c.self.view_is in
+    let nexts : length c.as_mut_slice.result.now ≡ length c.args.self.now.next = ap (λ (xs : List Sides). length xs) next_is in
+    let buckets = length c.as_slice-heads.result.now in
+    let one = bucket_of buckets c.first_wire.result in
+    let other = bucket_of buckets c.last_wire.result in
+    let before : Sides = record { first = get_or c.as_slice-heads.result.now one 0; second = get_or c.as_slice-heads.result.now other 0 } in
+    pushed c.args.gates.now c.args.gate c.args.self.now _ c.first_wire.result c.last_wire.result buckets c.last_places-last.result c.lead_both.new.sides before
+    c.requires.linked (omega (arith, room)) c.first_wire.ensures c.last_wire.ensures c.last_places-last.ensures.first c.last_places-last.ensures.second
+    (subst (λ (xs : List Sides). AreLed c.args.gates.now c.args.gate c.last_places-last.result (record { first = length c.args.gates.now; second = length c.args.gates.now }) xs c.lead_both.new.sides) next_is c.lead_both.ensures)
+    (ap (λ (xs : List ℕ). length xs) heads_is)
+    (ap (λ (xs : List ℕ). get_or xs one 0) heads_is)
+    (ap (λ (xs : List ℕ). get_or xs other 0) heads_is)
+    (c.push_reserved.ensures.items ∙ ap (λ (xs : List Sides). xs ++ (record { first = far; second = far }) ∷ []) (all_written c.self.inside.next.len c.lead_both.new.sides c.self.inside.next.items (omega (arith, nexts, c.lead_both.ensures.long))))
+    (c.push_reserved-2.ensures.items ∙ ap (λ (xs : List Sides). xs ++ c.last_places-last.result ∷ []) (ap (λ (v : LinksView). v.previous) c.self.view_is))
+    (c.push_reserved-3.ensures.items ∙ ap (λ (xs : List Sides). xs ++ before ∷ []) (ap (λ (v : LinksView). v.before) c.self.view_is))
+    (ap (λ (xs : List ℕ). set (set xs one (length c.args.gates.now)) other (length c.args.gates.now)) (ap (λ (v : LinksView). v.heads) c.self.view_is))
