@@ -4,13 +4,12 @@ ghost use Rattle.pq_match.specs.Redex.{gate_at};
 ghost use Rattle.pq_match.specs.Segment.{IsNextUse};
 
 use crate::slots::Slots;
-use pq_gate::{Gate, GateList};
+use pq_gate::Gate;
 use pq_limits::MAX_SEGMENT;
 use pq_links::Links;
 use pq_list::{OutOfMemory, crosses_threads};
 use std::alloc::Global;
 use std::marker::Model;
-use std::mem;
 
 /// A segment of a circuit that is being rewritten: a list of gates, and the room that was asked for.
 /// Contracts see both, as `items` and `room`. The room is taken once, and nothing that is done with the
@@ -109,27 +108,6 @@ impl Seg {
         ensures few { length result.now ≤ MAX_SEGMENT }
     {
         self.gates.as_slice()
-    }
-
-    /// Hands the gates over and leaves none: an empty list, which has at least the segment's room, comes in place of
-    /// theirs. No gate is copied, and no memory is taken.
-    pub fn take_gates(&mut self, empty: GateList) -> GateList
-        requires empty { empty.items ≡ [] }
-        requires enough { self.old.room ≤ empty.room }
-        ensures gates { result.items ≡ self.old.items }
-        ensures items { self.new.items ≡ [] }
-        ensures room { self.new.room ≡ self.old.room }
-    {
-        let gates = mem::replace(&mut self.gates, empty.into_vec());
-        self.links.clear();
-        GateList::of(gates)
-    }
-
-    /// The gates, without what else the segment has. None is copied, and no memory is taken.
-    pub fn into_gates(self) -> GateList
-        ensures { result.items ≡ self.items }
-    {
-        GateList::of(self.gates)
     }
 }
 
