@@ -6,7 +6,7 @@ ghost use Rattle.pq_match.specs.Segment.{IsNextUse};
 use crate::slots::Slots;
 use pq_gate::Gate;
 use pq_limits::MAX_SEGMENT;
-use pq_links::Links;
+use pq_links::{Links, NO_WIRE};
 use pq_list::{OutOfMemory, crosses_threads};
 use std::alloc::Global;
 use std::marker::Model;
@@ -19,6 +19,9 @@ pub struct Seg {
     pub(crate) gates: Vec<Gate>,
     pub(crate) links: Links,
 
+    // only set where no gate uses the number that stands for no wire
+    pub(crate) taken: bool,
+
     // the slots, and whether the gates that it holds stand in them
     pub(crate) work: Slots,
     pub(crate) loaded: bool,
@@ -26,18 +29,18 @@ pub struct Seg {
 }
 
 impl Model for Seg {
-    ghost use Rattle.std.specs.Prelude.{◌≡◌, ◌≤◌, vec_len, vec_capacity};
+    ghost use Rattle.std.specs.Prelude.{◌≡◌, ◌≤◌, true, vec_len, vec_capacity};
     ghost use Rattle.pq_limits.specs.declared.TheConstants.{MAX_SEGMENT};
     ghost use Rattle.pq_links.specs.Links.{AreLinked};
     ghost use Rattle.pq_match.specs.Segment.{SegView};
-    ghost use Rattle.pq_match.specs.Work.{HasRoom};
+    ghost use Rattle.pq_match.specs.Work.{AreTaken, HasRoom};
 
     ghost Value = { SegView };
 
     ghost view = { λ a. record { items = a.gates.items; room = a.asked; work = a.work; loaded = a.loaded } };
 
     ghost invariant = { λ a. HasRoom (vec_len a.gates) (vec_capacity a.gates) a.asked × (a.asked ≤ MAX_SEGMENT) × AreLinked a.gates.items a.links ×
-        (a.links.room ≡ a.asked) × (a.work.room ≡ a.asked) };
+        (a.links.room ≡ a.asked) × (a.work.room ≡ a.asked) × (a.taken ≡ true → AreTaken a.gates.items) };
 }
 
 impl Seg {
@@ -53,6 +56,7 @@ impl Seg {
         Ok(Seg {
             gates,
             links,
+            taken: true,
             work,
             loaded: false,
             asked: room,
@@ -73,9 +77,11 @@ impl Seg {
     {
         self.gates.clear();
         self.links.clear();
+        self.taken = true;
     }
 
     /// Appends a gate.
+    #[tactic(auto, using(crate::proofs::Spreading::taken_more))]
     pub fn push(&mut self, gate: Gate)
         requires { length self.old.items < self.old.room }
         ensures items { self.new.items ≡ self.old.items ++ gate ∷ [] }
@@ -83,6 +89,7 @@ impl Seg {
     {
         self.links.push(self.gates.as_slice(), gate);
         self.gates.push_reserved(gate);
+        self.taken = self.taken && !gate.touches(NO_WIRE);
     }
 
     /// The least place behind this one whose gate uses the wire, None exactly where there is none. The gate at the

@@ -22,10 +22,9 @@ impl Seg {
         ensures items { self.new.items ≡ self.old.items }
         ensures room { self.new.room ≡ self.old.room }
     {
-        let gates = self.gates.as_slice();
-        self.loaded = are_taken(gates);
+        self.loaded = self.taken;
         if self.loaded {
-            self.work.load(gates, &self.links);
+            self.work.load(self.gates.as_slice(), &self.links);
         } else {
             self.work.forget();
         }
@@ -42,6 +41,7 @@ impl Seg {
         if self.loaded {
             self.work.write(&mut self.gates);
             self.links.build(self.gates.as_slice());
+            self.taken = are_taken(self.gates.as_slice());
             self.loaded = false;
         }
     }
@@ -62,6 +62,7 @@ impl Seg {
         }
         let gates = mem::replace(&mut self.gates, empty.into_vec());
         self.links.clear();
+        self.taken = true;
         GateList::of(gates)
     }
 
