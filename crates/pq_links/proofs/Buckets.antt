@@ -1,13 +1,16 @@
 -- The last place on a wire, found along the places in the wire's bucket.
-use Rattle.std.proofs.Common.{◌≡◌, ◌≢◌, ℕ, ◌+◌, ◌-◌, ◌%◌, ◌<◌, ◌≤◌, Bool, true, false, List, length, sym, ap, subst, ◌∙◌, arith, inl, inr, ◌⊎◌}
+use Rattle.std.proofs.Common.{◌≡◌, ◌≢◌, ℕ, ◌+◌, ◌-◌, ◌%◌, ◌<◌, ◌≤◌, Bool, true, false, List, length, map, get_or, sym, ap, subst, ◌∙◌, arith, inl, inr, ◌⊎◌}
 use Rattle.std.proofs.lemmas.Bool.{cases_order}
 use Rattle.std.proofs.lemmas.Nat.{and_le_r}
 use Rattle.pq_gate.specs.declared.gate.Gate.{Gate}
+use Rattle.pq_gate.specs.declared.gate.Gate.TheVariants.{H}
 use Rattle.pq_gate.specs.Commuting.{Touches}
+use Rattle.pq_gate.specs.Ports.{last_wire}
+use Rattle.std.proofs.lemmas.List.{get_or-map}
 use Rattle.pq_links.specs.Wires.{wire_of}
 use Rattle.pq_links.specs.Places.{gate_at}
-use Rattle.pq_links.specs.Links.{bucket_of, far, IsLastIn}
-use Rattle.pq_links.proofs.Touching.{touched}
+use Rattle.pq_links.specs.Links.{bucket_of, far, IsLastIn, IsLastOn}
+use Rattle.pq_links.proofs.Touching.{touched, touching}
 
 -- each wire has its bucket
 pub bucket_below : (buckets wire : ℕ) → 0 < buckets → bucket_of buckets wire < buckets
@@ -80,3 +83,19 @@ earlier_less {buckets} {bucket} {gates} {place} {earlier} few inside last = by (
     by (inl same) = (let e : earlier ≡ far = last.past (omega arith) in absurd (omega arith))
     by (inr (inl less)) = omega arith
     by (inr (inr more)) = (let e : earlier ≡ far = last.past (omega arith) in omega arith)
+
+-- the last wire of a gate, as it was noted
+pub end_of : (gates : List Gate) (ends : List ℕ) (place : ℕ) → ends ≡ map last_wire gates → place < length gates → get_or ends place 0 ≡ last_wire (gate_at gates place)
+end_of gates ends place are inside = ap (λ (xs : List ℕ). get_or xs place 0) are ∙ get_or-map last_wire gates place (H 0) 0 inside
+
+-- the place that was looked for
+pub back_found : (buckets bucket : ℕ) (gates : List Gate) (ends : List ℕ) (wire place first : ℕ) → ends ≡ map last_wire gates → IsBack buckets bucket gates wire place →
+    place < length gates → first ≡ wire_of false (gate_at gates place) → (first ≡ wire) ⊎ (get_or ends place 0 ≡ wire) → IsLastOn gates wire (length gates) place
+back_found buckets bucket gates ends wire place first are back inside first_is either = record {
+  uses = λ _. elim either [
+    | inl same ↦ subst (Touches (gate_at gates place)) (sym first_is ∙ same) (touching (gate_at gates place) false)
+    | inr same ↦ subst (Touches (gate_at gates place)) (sym (end_of gates ends place are inside) ∙ same) (touching (gate_at gates place) true)
+  ];
+  none = back.none;
+  past = back.past;
+}

@@ -3,11 +3,12 @@ use Rattle.std.proofs.Common.{◌≡◌, ◌≢◌, ℕ, ◌+◌, ◌<◌, ◌�
 use Rattle.std.proofs.lemmas.Bool.{cases_order}
 use Rattle.std.proofs.Math.ListN.{get_or-append}
 use Rattle.std.proofs.lemmas.Grind.{get_or-set_at}
-use Rattle.std.proofs.lemmas.List.{length-append, length-set, get_or-set_other, take-append-le}
+use Rattle.std.proofs.lemmas.List.{map-append, length-append, length-set, get_or-set_other, take-append-le}
 use Rattle.std.proofs.Math.Seq.{get_or-append_seam, take-length}
 use Rattle.pq_gate.specs.declared.gate.Gate.{Gate}
 use Rattle.pq_gate.specs.declared.gate.Gate.TheVariants.{H}
 use Rattle.pq_gate.specs.Commuting.{Touches}
+use Rattle.pq_gate.specs.Ports.{last_wire}
 use Rattle.pq_links.specs.declared.links.Sides.{Sides}
 use Rattle.pq_links.specs.Wires.{wire_of}
 use Rattle.pq_links.specs.Places.{gate_at}
@@ -281,6 +282,7 @@ module _ (gates : List Gate) (gate : Gate) where
         next = led ++ (record { first = far; second = far }) ∷ [];
         previous = links.previous ++ last ∷ [];
         before = links.before ++ before ∷ [];
+        ends = links.ends ++ last_wire gate ∷ [];
         heads = set (set links.heads (bucket_of buckets (wire_of false gate)) (length gates)) (bucket_of buckets (wire_of true gate)) (length gates);
         room = room;
       })
@@ -291,6 +293,7 @@ module _ (gates : List Gate) (gate : Gate) where
         some = (let s : 0 < length links.heads = linked.some in let l = heads_long in omega (arith, heads_long));
         next = λ p one below. nexts_more p one below (cases_order p (length gates));
         previous = λ p one below. previouses_more p one below (cases_order p (length gates));
+        ends = ap (λ (xs : List ℕ). xs ++ last_wire gate ∷ []) linked.ends ∙ sym (map-append last_wire gates (gate ∷ []));
         before = λ p one below.
             subst (λ (b : ℕ). IsLastIn b (bucket_of b (wire_of one (gate_at (gates ++ gate ∷ []) p))) (gates ++ gate ∷ []) p (side_at one (links.before ++ before ∷ []) p)) (sym heads_long)
             (befores_more p one below (cases_order p (length gates)));
@@ -305,18 +308,19 @@ pub pushed : (gates : List Gate) (gate : Gate) (old new : LinksView) (first seco
     IsLastOn gates (wire_of false gate) (length gates) last.first → IsLastOn gates (wire_of true gate) (length gates) last.second →
     AreLed gates gate last (record { first = length gates; second = length gates }) old.next led →
     buckets ≡ length old.heads → before.first ≡ get_or old.heads (bucket_of buckets first) 0 → before.second ≡ get_or old.heads (bucket_of buckets second) 0 →
-    new.next ≡ led ++ (record { first = far; second = far }) ∷ [] → new.previous ≡ old.previous ++ last ∷ [] → new.before ≡ old.before ++ before ∷ [] →
+    new.next ≡ led ++ (record { first = far; second = far }) ∷ [] → new.previous ≡ old.previous ++ last ∷ [] → new.before ≡ old.before ++ before ∷ [] → new.ends ≡ old.ends ++ last_wire gate ∷ [] →
     new.heads ≡ set (set old.heads (bucket_of buckets first) (length gates)) (bucket_of buckets second) (length gates) →
     AreLinked (gates ++ gate ∷ []) new
-pushed gates gate old new first second buckets last led before linked few first_is second_is is_first is_second are_led are one_before other_before nexts previouses befores heads =
-    subst (λ (n : List Sides). AreLinked (gates ++ gate ∷ []) (record { next = n; previous = new.previous; before = new.before; heads = new.heads; room = new.room })) (sym nexts)
-    (subst (λ (l : List Sides). AreLinked (gates ++ gate ∷ []) (record { next = led ++ (record { first = far; second = far }) ∷ []; previous = l; before = new.before; heads = new.heads; room = new.room })) (sym previouses)
-    (subst (λ (b : List Sides). AreLinked (gates ++ gate ∷ []) (record { next = led ++ (record { first = far; second = far }) ∷ []; previous = old.previous ++ last ∷ []; before = b; heads = new.heads; room = new.room })) (sym befores)
-    (subst (λ (h : List ℕ). AreLinked (gates ++ gate ∷ []) (record { next = led ++ (record { first = far; second = far }) ∷ []; previous = old.previous ++ last ∷ []; before = old.before ++ before ∷ []; heads = h; room = new.room }))
+pushed gates gate old new first second buckets last led before linked few first_is second_is is_first is_second are_led are one_before other_before nexts previouses befores ends heads =
+    subst (λ (n : List Sides). AreLinked (gates ++ gate ∷ []) (record { next = n; previous = new.previous; before = new.before; ends = new.ends; heads = new.heads; room = new.room })) (sym nexts)
+    (subst (λ (l : List Sides). AreLinked (gates ++ gate ∷ []) (record { next = led ++ (record { first = far; second = far }) ∷ []; previous = l; before = new.before; ends = new.ends; heads = new.heads; room = new.room })) (sym previouses)
+    (subst (λ (b : List Sides). AreLinked (gates ++ gate ∷ []) (record { next = led ++ (record { first = far; second = far }) ∷ []; previous = old.previous ++ last ∷ []; before = b; ends = new.ends; heads = new.heads; room = new.room })) (sym befores)
+    (subst (λ (e : List ℕ). AreLinked (gates ++ gate ∷ []) (record { next = led ++ (record { first = far; second = far }) ∷ []; previous = old.previous ++ last ∷ []; before = old.before ++ before ∷ []; ends = e; heads = new.heads; room = new.room })) (sym ends)
+    (subst (λ (h : List ℕ). AreLinked (gates ++ gate ∷ []) (record { next = led ++ (record { first = far; second = far }) ∷ []; previous = old.previous ++ last ∷ []; before = old.before ++ before ∷ []; ends = old.ends ++ last_wire gate ∷ []; heads = h; room = new.room }))
     (sym (heads ∙ (ap (λ (w : ℕ). set (set old.heads (bucket_of buckets w) (length gates)) (bucket_of buckets second) (length gates)) first_is
     ∙ ap (λ (w : ℕ). set (set old.heads (bucket_of buckets (wire_of false gate)) (length gates)) (bucket_of buckets w) (length gates)) second_is)))
     (linked_more gates gate old linked few last led both are_led before buckets are
-    (one_before ∙ ap (λ (w : ℕ). get_or old.heads (bucket_of buckets w) 0) first_is) (other_before ∙ ap (λ (w : ℕ). get_or old.heads (bucket_of buckets w) 0) second_is) new.room))))
+    (one_before ∙ ap (λ (w : ℕ). get_or old.heads (bucket_of buckets w) 0) first_is) (other_before ∙ ap (λ (w : ℕ). get_or old.heads (bucket_of buckets w) 0) second_is) new.room)))))
   where
     both : (b : Bool) → IsLastOn gates (wire_of b gate) (length gates) (side b last)
     both true = is_second

@@ -1,7 +1,8 @@
 -- The neighbours of gates on their wires.
-use Rattle.std.specs.Prelude.{◌≡◌, ◌≢◌, ℕ, ◌+◌, ◌-◌, ◌<◌, ◌≤◌, Bool, cond, List, bit_and, length, slice_index, slice_index_or}
+use Rattle.std.specs.Prelude.{◌≡◌, ◌≢◌, ℕ, ◌+◌, ◌-◌, ◌<◌, ◌≤◌, Bool, cond, List, bit_and, length, map, slice_index, slice_index_or}
 use Rattle.pq_gate.specs.declared.gate.Gate.{Gate}
 use Rattle.pq_gate.specs.Commuting.{Touches}
+use Rattle.pq_gate.specs.Ports.{last_wire}
 use Rattle.pq_links.specs.declared.links.Sides.{Sides}
 use Rattle.pq_links.specs.Wires.{wire_of}
 use Rattle.pq_links.specs.Places.{gate_at}
@@ -50,11 +51,12 @@ abbrev pub AreHeads : List Gate → List ℕ → Type 0
 AreHeads gates heads = (k : ℕ) → k < length heads → IsLastIn (length heads) k gates (length gates) (slice_index heads k)
 
 -- links of some gates: for each and each of its wires the next and the previous place on the wire, and the last place before it
--- in the wire's bucket; for each bucket the last place in it; and the room that was asked for
+-- in the wire's bucket; its last wire; for each bucket the last place in it; and the room that was asked for
 pub record LinksView : Type 0 where
   pub next : List Sides
   pub previous : List Sides
   pub before : List Sides
+  pub ends : List ℕ
   pub heads : List ℕ
   pub room : ℕ
 
@@ -67,4 +69,5 @@ pub record AreLinked (gates : List Gate) (links : LinksView) : Type 0 where
   pub next : (p : ℕ) (one : Bool) → p < length gates → IsNextOn gates (wire_of one (gate_at gates p)) (p + 1) (side_at one links.next p)
   pub previous : (p : ℕ) (one : Bool) → p < length gates → IsLastOn gates (wire_of one (gate_at gates p)) p (side_at one links.previous p)
   pub before : AreBefore (length links.heads) gates links.before
+  pub ends : links.ends ≡ map last_wire gates
   pub heads : AreHeads gates links.heads
