@@ -1,7 +1,8 @@
 -- The last place on a wire, found along the places in the wire's bucket.
-use Rattle.std.proofs.Common.{◌≡◌, ◌≢◌, ℕ, ◌+◌, ◌-◌, ◌%◌, ◌<◌, ◌≤◌, Bool, true, false, List, length, map, get_or, sym, ap, subst, ◌∙◌, arith, inl, inr, ◌⊎◌}
-use Rattle.std.proofs.lemmas.Bool.{cases_order}
+use Rattle.std.proofs.Common.{◌≡◌, ◌≢◌, ℕ, ◌+◌, ◌-◌, ◌/◌, ◌%◌, ◌<◌, ◌≤◌, Bool, true, false, min, bit_xor, List, length, map, get_or, sym, ap, subst, ◌∙◌, arith, inl, inr, ◌⊎◌}
+use Rattle.std.proofs.lemmas.Bool.{cases_order, cases_lt}
 use Rattle.std.proofs.lemmas.Nat.{and_le_r}
+use Rattle.std.specs.Int.Bits.{xor_self, xor_zero_l, xor_zero_r, xor_assoc}
 use Rattle.pq_gate.specs.declared.gate.Gate.{Gate}
 use Rattle.pq_gate.specs.declared.gate.Gate.TheVariants.{H}
 use Rattle.pq_gate.specs.Commuting.{Touches}
@@ -14,7 +15,7 @@ use Rattle.pq_links.proofs.Touching.{touched, touching}
 
 -- each wire has its bucket
 pub bucket_below : (buckets wire : ℕ) → 0 < buckets → bucket_of buckets wire < buckets
-bucket_below buckets wire some = omega (arith, and_le_r wire (buckets - 1))
+bucket_below buckets wire some = omega (arith, and_le_r (bit_xor (bit_xor wire (wire / 64)) (wire / 4096)) (buckets - 1))
 
 -- No gate behind the place uses the wire, and the place is in the wire's bucket, or past the end.
 pub record IsBack (buckets bucket : ℕ) (gates : List Gate) (wire place : ℕ) : Type 0 where
@@ -99,3 +100,24 @@ back_found buckets bucket gates ends wire place first are back inside first_is e
   none = back.none;
   past = back.past;
 }
+
+-- numbers without a different bit are one
+xor_same : (a b : ℕ) → bit_xor a b ≡ 0 → a ≡ b
+xor_same a b none =
+    sym (xor_zero_r a) ∙ (ap (λ (n : ℕ). bit_xor a n) (sym (xor_self b)) ∙ (sym (xor_assoc a b b) ∙ (ap (λ (n : ℕ). bit_xor n b) none ∙ xor_zero_l b)))
+
+xor_none : (a b : ℕ) → a ≡ b → bit_xor a b ≡ 0
+xor_none a b same = ap (λ (n : ℕ). bit_xor n b) same ∙ xor_self b
+
+pub either_same : (first second wire : ℕ) → min (bit_xor first wire) (bit_xor second wire) ≡ 0 → (first ≡ wire) ⊎ (second ≡ wire)
+either_same first second wire none = by (cases_lt (bit_xor first wire) 1)
+  where
+    by : (bit_xor first wire < 1) ⊎ (1 ≤ bit_xor first wire) → (first ≡ wire) ⊎ (second ≡ wire)
+    by (inl less) = inl (xor_same first wire (omega arith))
+    by (inr more) = inr (xor_same second wire (omega arith))
+
+pub first_apart : (first second wire : ℕ) → (min (bit_xor first wire) (bit_xor second wire) ≡ 0 → ⊥) → first ≢ wire
+first_apart first second wire some same = some (let e : bit_xor first wire ≡ 0 = xor_none first wire same in omega arith)
+
+pub second_apart : (first second wire : ℕ) → (min (bit_xor first wire) (bit_xor second wire) ≡ 0 → ⊥) → second ≢ wire
+second_apart first second wire some same = some (let e : bit_xor second wire ≡ 0 = xor_none second wire same in omega arith)

@@ -1,5 +1,5 @@
 -- The neighbours of gates on their wires.
-use Rattle.std.specs.Prelude.{◌≡◌, ◌≢◌, ℕ, ◌+◌, ◌-◌, ◌<◌, ◌≤◌, Bool, cond, List, bit_and, length, map, slice_index, slice_index_or}
+use Rattle.std.specs.Prelude.{◌≡◌, ◌≢◌, ℕ, ◌+◌, ◌-◌, ◌/◌, ◌<◌, ◌≤◌, Bool, cond, List, bit_and, bit_xor, length, map, slice_index, slice_index_or}
 use Rattle.pq_gate.specs.declared.gate.Gate.{Gate}
 use Rattle.pq_gate.specs.Commuting.{Touches}
 use Rattle.pq_gate.specs.Ports.{last_wire}
@@ -25,9 +25,10 @@ pub record IsNextOn (gates : List Gate) (wire from place : ℕ) : Type 0 where
   pub none : (p : ℕ) → from ≤ p → p < place → p < length gates → ¬ Touches (gate_at gates p) wire
   pub past : length gates ≤ place → place ≡ far
 
--- the bucket of a wire, by its low bits where there are as many buckets as a power of two
+-- The bucket of a wire, by its low bits where there are as many buckets as a power of two. Higher bits are folded in, so that
+-- wires that are multiples of a power of two don't meet in one bucket.
 abbrev pub bucket_of : ℕ → ℕ → ℕ
-bucket_of buckets wire = bit_and wire (buckets - 1)
+bucket_of buckets wire = bit_and (bit_xor (bit_xor wire (wire / 64)) (wire / 4096)) (buckets - 1)
 
 -- The greatest place before the bound with a wire in the bucket, or `far` where there is none.
 pub record IsLastIn (buckets bucket : ℕ) (gates : List Gate) (bound place : ℕ) : Type 0 where

@@ -3,7 +3,7 @@ ghost use Rattle.pq_gate.specs.Commuting.{Touches};
 ghost use Rattle.pq_gate.specs.Ports.{last_wire};
 ghost use Rattle.pq_links.specs.Wires.{wire_of};
 ghost use Rattle.pq_links.specs.Places.{gate_at};
-ghost use Rattle.pq_links.specs.Links.{side_at, IsNextOn, IsLastIn, IsLastOn, AreLinked, AreBefore, AreHeads};
+ghost use Rattle.pq_links.specs.Links.{bucket_of, side_at, IsNextOn, IsLastIn, IsLastOn, AreLinked, AreBefore, AreHeads};
 ghost use Rattle.pq_links.specs.Slots.{AreNext};
 ghost use Rattle.pq_links.specs.Leading.{AreLed};
 
@@ -26,7 +26,7 @@ pub struct Sides {
 }
 
 /// The links of a list of gates: for each gate and each of its wires the next and the previous place on that wire. Gates are
-/// appended in constant expected time: wires go into buckets by their low bits, and each gate knows the
+/// appended in constant expected time: wires go into buckets by their bits, and each gate knows the
 /// last place before it in the bucket of each of its wires. Memory is taken once.
 #[derive(Drop)]
 pub struct Links {
@@ -116,10 +116,9 @@ impl Links {
             second: FAR as u16,
         });
         self.previous.push_reserved(last);
-        let mask = heads.len() as u32 - 1;
-        let one = (gate.first_wire() & mask) as usize;
         let end = gate.last_wire();
-        let other = (end & mask) as usize;
+        let one = bucket_in(gate.first_wire(), heads.len());
+        let other = bucket_in(end, heads.len());
         self.before.push_reserved(Sides {
             first: heads[one],
             second: heads[other],
@@ -242,9 +241,8 @@ fn last_on(gates: &[Gate], ends: &[u32], before: &[Sides], heads: &[u16], wire: 
     ensures fits { result ≤ FAR }
     ensures last { IsLastOn gates.now wire (length gates.now) result }
 {
-    let mask = heads.len() as u32 - 1;
-    let bucket = wire & mask;
-    let mut place = heads[bucket as usize] as u32;
+    let bucket = bucket_in(wire, heads.len());
+    let mut place = heads[bucket] as u32;
     'back: while (place as usize) < gates.len() {
         let first = gates[place as usize].first_wire();
         let second = ends[place as usize];
@@ -252,7 +250,7 @@ fn last_on(gates: &[Gate], ends: &[u32], before: &[Sides], heads: &[u16], wire: 
             return place;
         }
         let earlier = before[place as usize];
-        place = if first & mask == bucket {
+        place = if bucket_in(first, heads.len()) == bucket {
             earlier.first as u32
         } else {
             earlier.second as u32
@@ -261,13 +259,26 @@ fn last_on(gates: &[Gate], ends: &[u32], before: &[Sides], heads: &[u16], wire: 
     FAR
 }
 
+// the bucket of a wire
+#[tactic(auto, using(crate::proofs::Buckets::bucket_below))]
+fn bucket_in(wire: u32, buckets: usize) -> usize
+    requires some { 0 < buckets }
+    requires few { buckets ≤ 2 * FAR }
+    ensures is { result ≡ bucket_of buckets wire }
+    ensures below { result < buckets }
+{
+    let folded = wire ^ (wire >> 6) ^ (wire >> 12);
+    (folded & (buckets as u32 - 1)) as usize
+}
+
 // Whether one of two wires is this one. Which one it is can't be foretold, so it is one test.
+#[tactic(auto, using(crate::proofs::Buckets::either_same, crate::proofs::Buckets::first_apart, crate::proofs::Buckets::second_apart))]
 fn is_either(first: u32, second: u32, wire: u32) -> bool
     ensures is { result ≡ true → (first ≡ wire) ⊎ (second ≡ wire) }
     ensures not_first { result ≡ false → first ≢ wire }
     ensures not_second { result ≡ false → second ≢ wire }
 {
-    first.abs_diff(wire).min(second.abs_diff(wire)) == 0
+    (first ^ wire).min(second ^ wire) == 0
 }
 
 /// The last wires of two gates, or anything where a place has none.
