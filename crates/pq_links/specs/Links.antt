@@ -25,8 +25,8 @@ pub record IsNextOn (gates : List Gate) (wire from place : ℕ) : Type 0 where
   pub none : (p : ℕ) → from ≤ p → p < place → p < length gates → ¬ Touches (gate_at gates p) wire
   pub past : length gates ≤ place → place ≡ far
 
--- The bucket of a wire, by its low bits where there are as many buckets as a power of two. Higher bits are folded in, so that
--- wires that are multiples of a power of two don't meet in one bucket.
+-- The bucket of a wire, by its low bits where there are as many buckets as a power of two. Higher bits are folded in, since the
+-- wires of a grid may all be multiples of 64 or so.
 abbrev pub bucket_of : ℕ → ℕ → ℕ
 bucket_of buckets wire = bit_and (bit_xor (bit_xor wire (wire / 64)) (wire / 4096)) (buckets - 1)
 
