@@ -39,6 +39,7 @@ impl Seg {
         self.gates.truncate(left);
         self.links.build(self.gates.as_slice());
         self.taken = are_taken(self.gates.as_slice());
+        self.loaded = false;
         rewriting_keeps_the_matrix();
         row.phase()
     }

@@ -25,11 +25,15 @@ pub struct Seg {
     // the slots, and whether the gates that it holds stand in them
     pub(crate) work: Slots,
     pub(crate) loaded: bool,
+
+    // only clear where the gates in the slots are the segment's
+    pub(crate) rewritten: bool,
     pub(crate) asked: u32,
 }
 
 impl Model for Seg {
-    ghost use Rattle.std.specs.Prelude.{◌≡◌, ◌≤◌, true, vec_len, vec_capacity};
+    ghost use Rattle.std.specs.Prelude.{◌≡◌, ◌≤◌, true, false, vec_len, vec_capacity};
+    ghost use Rattle.pq_links.specs.Slots.{gates_in};
     ghost use Rattle.pq_limits.specs.declared.TheConstants.{MAX_SEGMENT};
     ghost use Rattle.pq_links.specs.Links.{AreLinked};
     ghost use Rattle.pq_match.specs.Segment.{SegView};
@@ -40,7 +44,8 @@ impl Model for Seg {
     ghost view = { λ a. record { items = a.gates.items; room = a.asked; work = a.work; loaded = a.loaded } };
 
     ghost invariant = { λ a. HasRoom (vec_len a.gates) (vec_capacity a.gates) a.asked × (a.asked ≤ MAX_SEGMENT) × AreLinked a.gates.items a.links ×
-        (a.links.room ≡ a.asked) × (a.work.room ≡ a.asked) × (a.taken ≡ true → AreTaken a.gates.items) };
+        (a.links.room ≡ a.asked) × (a.work.room ≡ a.asked) × (a.taken ≡ true → AreTaken a.gates.items) ×
+        (a.loaded ≡ true → a.rewritten ≡ false → gates_in a.work.gates ≡ a.gates.items) };
 }
 
 impl Seg {
@@ -59,6 +64,7 @@ impl Seg {
             taken: true,
             work,
             loaded: false,
+            rewritten: false,
             asked: room,
         })
     }
@@ -78,6 +84,7 @@ impl Seg {
         self.gates.clear();
         self.links.clear();
         self.taken = true;
+        self.loaded = false;
     }
 
     /// Appends a gate.
@@ -90,6 +97,7 @@ impl Seg {
         self.links.push(self.gates.as_slice(), gate);
         self.gates.push_reserved(gate);
         self.taken = self.taken && !gate.touches(NO_WIRE);
+        self.loaded = false;
     }
 
     /// The least place behind this one whose gate uses the wire, None exactly where there is none. The gate at the

@@ -23,6 +23,7 @@ impl Seg {
         ensures room { self.new.room ≡ self.old.room }
     {
         self.loaded = self.taken;
+        self.rewritten = false;
         if self.loaded {
             self.work.load(self.gates.as_slice(), &self.links);
         } else {
@@ -38,12 +39,12 @@ impl Seg {
         ensures work { self.new.work ≡ self.old.work }
         ensures room { self.new.room ≡ self.old.room }
     {
-        if self.loaded {
+        if self.loaded && self.rewritten {
             self.work.write(&mut self.gates);
             self.links.build(self.gates.as_slice());
             self.taken = are_taken(self.gates.as_slice());
-            self.loaded = false;
         }
+        self.loaded = false;
     }
 
     /// Hands over the gates that are held and leaves none: an empty list, which has at least the segment's room, comes in
@@ -56,10 +57,10 @@ impl Seg {
         ensures closed { self.new.loaded ≡ false }
         ensures room { self.new.room ≡ self.old.room }
     {
-        if self.loaded {
+        if self.loaded && self.rewritten {
             self.work.write(&mut self.gates);
-            self.loaded = false;
         }
+        self.loaded = false;
         let gates = mem::replace(&mut self.gates, empty.into_vec());
         self.links.clear();
         self.taken = true;
@@ -71,7 +72,7 @@ impl Seg {
         ensures { result.items ≡ held self }
     {
         let mut gates = self.gates;
-        if self.loaded {
+        if self.loaded && self.rewritten {
             self.work.write(&mut gates);
         }
         GateList::of(gates)
@@ -94,6 +95,7 @@ impl Seg {
             return None;
         };
         if let Some(phase) = self.work.rewrite(rules, &redex) {
+            self.rewritten = true;
             return Some(phase);
         }
         self.gather();
