@@ -1,27 +1,36 @@
 -- The last place on a wire, found along the places in the wire's bucket.
-use Rattle.std.proofs.Common.{◌≡◌, ◌≢◌, ℕ, ◌+◌, ◌%◌, ◌<◌, ◌≤◌, Bool, true, false, List, length, sym, ap, subst, ◌∙◌, arith, inl, inr, ◌⊎◌}
-use Rattle.std.proofs.lemmas.Bool.{cases_order}
+use Rattle.std.proofs.Common.{◌≡◌, ◌≢◌, ℕ, ◌+◌, ◌-◌, ◌/◌, ◌%◌, ◌<◌, ◌≤◌, Bool, true, false, min, bit_xor, List, length, map, get_or, sym, ap, subst, ◌∙◌, arith, inl, inr, ◌⊎◌}
+use Rattle.std.proofs.lemmas.Bool.{cases_order, cases_lt}
+use Rattle.std.proofs.lemmas.Nat.{and_le_r}
+use Rattle.std.specs.Int.Bits.{xor_self, xor_zero_l, xor_zero_r, xor_assoc}
 use Rattle.pq_gate.specs.declared.gate.Gate.{Gate}
+use Rattle.pq_gate.specs.declared.gate.Gate.TheVariants.{H}
 use Rattle.pq_gate.specs.Commuting.{Touches}
+use Rattle.pq_gate.specs.Ports.{last_wire}
+use Rattle.std.proofs.lemmas.List.{get_or-map}
 use Rattle.pq_links.specs.Wires.{wire_of}
 use Rattle.pq_links.specs.Places.{gate_at}
-use Rattle.pq_links.specs.Links.{far, IsLastIn}
-use Rattle.pq_links.proofs.Touching.{touched}
+use Rattle.pq_links.specs.Links.{bucket_of, far, IsLastIn, IsLastOn}
+use Rattle.pq_links.proofs.Touching.{touched, touching}
+
+-- each wire has its bucket
+pub bucket_below : (buckets wire : ℕ) → 0 < buckets → bucket_of buckets wire < buckets
+bucket_below buckets wire some = omega (arith, and_le_r (bit_xor (bit_xor wire (wire / 64)) (wire / 4096)) (buckets - 1))
 
 -- No gate behind the place uses the wire, and the place is in the wire's bucket, or past the end.
 pub record IsBack (buckets bucket : ℕ) (gates : List Gate) (wire place : ℕ) : Type 0 where
-  pub «in» : place < length gates → (one : Bool) × (wire_of one (gate_at gates place) % buckets ≡ bucket)
+  pub «in» : place < length gates → (one : Bool) × (bucket_of buckets (wire_of one (gate_at gates place)) ≡ bucket)
   pub none : (p : ℕ) → p < length gates → (place < length gates → place < p) → ¬ Touches (gate_at gates p) wire
   pub past : length gates ≤ place → place ≡ far
 
 -- a gate with no wire in the bucket doesn't use the wire
-not_in : (buckets : ℕ) (gate : Gate) (wire : ℕ) → ((one : Bool) → wire_of one gate % buckets ≢ wire % buckets) → ¬ Touches gate wire
+not_in : (buckets : ℕ) (gate : Gate) (wire : ℕ) → ((one : Bool) → bucket_of buckets (wire_of one gate) ≢ bucket_of buckets wire) → ¬ Touches gate wire
 not_in buckets gate wire none uses =
     let side = touched gate wire uses in
-    none side.0 (ap (λ (w : ℕ). w % buckets) (sym side.1))
+    none side.0 (ap (λ (w : ℕ). bucket_of buckets w) (sym side.1))
 
-pub back_starts : {buckets : ℕ} {gates : List Gate} (wire place : ℕ) → IsLastIn buckets (wire % buckets) gates (length gates) place →
-    IsBack buckets (wire % buckets) gates wire place
+pub back_starts : {buckets : ℕ} {gates : List Gate} (wire place : ℕ) → IsLastIn buckets (bucket_of buckets wire) gates (length gates) place →
+    IsBack buckets (bucket_of buckets wire) gates wire place
 back_starts {buckets} {gates} wire place last = record {
   «in» = last.«in»;
   none = λ p below behind. not_in buckets (gate_at gates p) wire (last.none p below behind);
@@ -29,9 +38,9 @@ back_starts {buckets} {gates} wire place last = record {
 }
 
 -- one place further back
-pub back_more : (buckets : ℕ) (gates : List Gate) (wire place earlier : ℕ) → length gates < far → IsBack buckets (wire % buckets) gates wire place →
-    place < length gates → ¬ Touches (gate_at gates place) wire → IsLastIn buckets (wire % buckets) gates place earlier →
-    IsBack buckets (wire % buckets) gates wire earlier
+pub back_more : (buckets : ℕ) (gates : List Gate) (wire place earlier : ℕ) → length gates < far → IsBack buckets (bucket_of buckets wire) gates wire place →
+    place < length gates → ¬ Touches (gate_at gates place) wire → IsLastIn buckets (bucket_of buckets wire) gates place earlier →
+    IsBack buckets (bucket_of buckets wire) gates wire earlier
 back_more buckets gates wire place earlier few back inside other last = record {
   «in» = λ below. last.«in» (before below (cases_order earlier place));
   none = λ p below behind. none p below behind (cases_order p place);
@@ -54,7 +63,7 @@ back_more buckets gates wire place earlier few back inside other last = record {
     none p below behind (inr (inr more)) = back.none p below (λ low. more)
 
 -- the other wire is in the bucket
-pub other_side : (buckets bucket : ℕ) (gate : Gate) → (one : Bool) × (wire_of one gate % buckets ≡ bucket) → (wire_of false gate % buckets ≢ bucket) → wire_of true gate % buckets ≡ bucket
+pub other_side : (buckets bucket : ℕ) (gate : Gate) → (one : Bool) × (bucket_of buckets (wire_of one gate) ≡ bucket) → (bucket_of buckets (wire_of false gate) ≢ bucket) → bucket_of buckets (wire_of true gate) ≡ bucket
 other_side buckets bucket gate (true, is) not_first = is
 other_side buckets bucket gate (false, is) not_first = absurd (not_first is)
 
@@ -75,3 +84,40 @@ earlier_less {buckets} {bucket} {gates} {place} {earlier} few inside last = by (
     by (inl same) = (let e : earlier ≡ far = last.past (omega arith) in absurd (omega arith))
     by (inr (inl less)) = omega arith
     by (inr (inr more)) = (let e : earlier ≡ far = last.past (omega arith) in omega arith)
+
+-- the last wire of a gate, as it was noted
+pub end_of : (gates : List Gate) (ends : List ℕ) (place : ℕ) → ends ≡ map last_wire gates → place < length gates → get_or ends place 0 ≡ last_wire (gate_at gates place)
+end_of gates ends place are inside = ap (λ (xs : List ℕ). get_or xs place 0) are ∙ get_or-map last_wire gates place (H 0) 0 inside
+
+-- the place that was looked for
+pub back_found : (buckets bucket : ℕ) (gates : List Gate) (ends : List ℕ) (wire place first : ℕ) → ends ≡ map last_wire gates → IsBack buckets bucket gates wire place →
+    place < length gates → first ≡ wire_of false (gate_at gates place) → (first ≡ wire) ⊎ (get_or ends place 0 ≡ wire) → IsLastOn gates wire (length gates) place
+back_found buckets bucket gates ends wire place first are back inside first_is either = record {
+  uses = λ _. elim either [
+    | inl same ↦ subst (Touches (gate_at gates place)) (sym first_is ∙ same) (touching (gate_at gates place) false)
+    | inr same ↦ subst (Touches (gate_at gates place)) (sym (end_of gates ends place are inside) ∙ same) (touching (gate_at gates place) true)
+  ];
+  none = back.none;
+  past = back.past;
+}
+
+-- numbers without a different bit are one
+xor_same : (a b : ℕ) → bit_xor a b ≡ 0 → a ≡ b
+xor_same a b none =
+    sym (xor_zero_r a) ∙ (ap (λ (n : ℕ). bit_xor a n) (sym (xor_self b)) ∙ (sym (xor_assoc a b b) ∙ (ap (λ (n : ℕ). bit_xor n b) none ∙ xor_zero_l b)))
+
+xor_none : (a b : ℕ) → a ≡ b → bit_xor a b ≡ 0
+xor_none a b same = ap (λ (n : ℕ). bit_xor n b) same ∙ xor_self b
+
+pub either_same : (first second wire : ℕ) → min (bit_xor first wire) (bit_xor second wire) ≡ 0 → (first ≡ wire) ⊎ (second ≡ wire)
+either_same first second wire none = by (cases_lt (bit_xor first wire) 1)
+  where
+    by : (bit_xor first wire < 1) ⊎ (1 ≤ bit_xor first wire) → (first ≡ wire) ⊎ (second ≡ wire)
+    by (inl less) = inl (xor_same first wire (omega arith))
+    by (inr more) = inr (xor_same second wire (omega arith))
+
+pub first_apart : (first second wire : ℕ) → (min (bit_xor first wire) (bit_xor second wire) ≡ 0 → ⊥) → first ≢ wire
+first_apart first second wire some same = some (let e : bit_xor first wire ≡ 0 = xor_none first wire same in omega arith)
+
+pub second_apart : (first second wire : ℕ) → (min (bit_xor first wire) (bit_xor second wire) ≡ 0 → ⊥) → second ≢ wire
+second_apart first second wire some same = some (let e : bit_xor second wire ≡ 0 = xor_none second wire same in omega arith)

@@ -1,5 +1,5 @@
 -- Sides that are led on for both wires of a gate.
-use Rattle.std.proofs.Common.{◌≡◌, ℕ, ◌<◌, Bool, true, false, List, length, sym, ap, subst, ◌∙◌, arith, inl, inr, ◌⊎◌}
+use Rattle.std.proofs.Common.{◌≡◌, ℕ, ◌<◌, Bool, true, false, List, length, refl, sym, ap, subst, ◌∙◌, arith, inl, inr, ◌⊎◌}
 use Rattle.std.proofs.lemmas.Bool.{cases_order}
 use Rattle.pq_gate.specs.declared.gate.Gate.{Gate}
 use Rattle.pq_links.specs.declared.links.Sides.{Sides}
@@ -7,7 +7,11 @@ use Rattle.pq_links.specs.Wires.{wire_of}
 use Rattle.pq_links.specs.Places.{gate_at}
 use Rattle.pq_links.specs.Links.{side, side_at}
 use Rattle.pq_links.specs.Leading.{IsLedAt, AreLed}
-use Rattle.pq_links.proofs.Pushing.{IsLed}
+
+-- the last gate on a wire is led on to a place
+pub record IsLed (gates : List Gate) (old new : List Sides) (last wire place : ℕ) : Type 0 where
+  pub led : (one : Bool) → last < length gates → wire_of one (gate_at gates last) ≡ wire → side_at one new last ≡ place
+  pub others : (p : ℕ) (one : Bool) → (p ≡ last → wire_of one (gate_at gates p) ≡ wire → ⊥) → side_at one new p ≡ side_at one old p
 
 -- one number is another or isn't
 same_or_not : (a b : ℕ) → (a ≡ b) ⊎ (a ≡ b → ⊥)
@@ -58,3 +62,14 @@ led_twice slots gate at to old mid new first last first_is last_is one other lon
   long = long;
   each = each_led slots gate at to old mid new (subst (λ (w : ℕ). IsLed slots old mid at.first w to.first) first_is one) (subst (λ (w : ℕ). IsLed slots mid new at.second w to.second) last_is other);
 }
+
+-- the same for a gate with one wire, which is led on once
+pub led_once : (slots : List Gate) (gate : Gate) (at to : Sides) (old new : List Sides) (first last : ℕ) → first ≡ wire_of false gate → last ≡ wire_of true gate → first ≡ last →
+    at.first ≡ at.second → to.first ≡ to.second → IsLed slots old new at.first first to.first → length new ≡ length old → AreLed slots gate at to old new
+led_once slots gate at to old new first last first_is last_is same_wire same_at same_to one long =
+    led_twice slots gate at to old new new first last first_is last_is one (record { led = led; others = λ p side other. refl }) long
+  where
+    led : (side : Bool) → at.second < length slots → wire_of side (gate_at slots at.second) ≡ last → side_at side new at.second ≡ to.second
+    led side below on =
+        ap (λ (q : ℕ). side_at side new q) (sym same_at)
+        ∙ (one.led side (subst (λ (q : ℕ). q < length slots) (sym same_at) below) (ap (λ (q : ℕ). wire_of side (gate_at slots q)) same_at ∙ (on ∙ sym same_wire)) ∙ same_to)

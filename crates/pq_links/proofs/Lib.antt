@@ -5,6 +5,5 @@ pub mod Neighbours
 pub mod Leading
 pub mod Changing
 pub mod Linking
-pub mod Filling
 pub mod Spreading
 pub mod Gaps

@@ -1,23 +1,21 @@
 -- The links of a list with a gate more.
-use Rattle.std.proofs.Common.{◌≡◌, ◌≢◌, ℕ, ◌+◌, ◌%◌, ◌<◌, ◌≤◌, Bool, true, false, List, [], ◌∷◌, ◌++◌, length, get_or, set, take, drop, refl, sym, ap, subst, ◌∙◌, arith, inl, inr, ◌⊎◌}
+use Rattle.std.proofs.Common.{◌≡◌, ◌≢◌, ℕ, ◌+◌, ◌<◌, ◌≤◌, Bool, true, false, List, [], ◌∷◌, ◌++◌, length, get_or, set, take, drop, refl, sym, ap, subst, ◌∙◌, arith, inl, inr, ◌⊎◌}
 use Rattle.std.proofs.lemmas.Bool.{cases_order}
 use Rattle.std.proofs.Math.ListN.{get_or-append}
 use Rattle.std.proofs.lemmas.Grind.{get_or-set_at}
-use Rattle.std.proofs.lemmas.List.{length-append, length-set, get_or-set_other, take-append-le}
+use Rattle.std.proofs.lemmas.List.{map-append, length-append, length-set, get_or-set_other, take-append-le}
 use Rattle.std.proofs.Math.Seq.{get_or-append_seam, take-length}
 use Rattle.pq_gate.specs.declared.gate.Gate.{Gate}
 use Rattle.pq_gate.specs.declared.gate.Gate.TheVariants.{H}
 use Rattle.pq_gate.specs.Commuting.{Touches}
+use Rattle.pq_gate.specs.Ports.{last_wire}
 use Rattle.pq_links.specs.declared.links.Sides.{Sides}
 use Rattle.pq_links.specs.Wires.{wire_of}
 use Rattle.pq_links.specs.Places.{gate_at}
-use Rattle.pq_links.specs.Links.{side, side_at, far, IsNextOn, IsLastIn, IsLastOn, LinksView, AreLinked}
-use Rattle.pq_links.proofs.Touching.{touched, touching}
-
--- the last gate on a wire is led on to a place
-pub record IsLed (gates : List Gate) (old new : List Sides) (last wire place : ℕ) : Type 0 where
-  pub led : (one : Bool) → last < length gates → wire_of one (gate_at gates last) ≡ wire → side_at one new last ≡ place
-  pub others : (p : ℕ) (one : Bool) → (p ≡ last → wire_of one (gate_at gates p) ≡ wire → ⊥) → side_at one new p ≡ side_at one old p
+use Rattle.pq_links.specs.Links.{bucket_of, side, side_at, far, IsNextOn, IsLastIn, IsLastOn, LinksView, AreLinked}
+use Rattle.pq_links.proofs.Buckets.{bucket_below}
+use Rattle.pq_links.specs.Leading.{IsLedAt, AreLed}
+use Rattle.pq_links.proofs.Touching.{touching, on_which}
 
 module _ (gates : List Gate) (gate : Gate) where
   long : length (gates ++ gate ∷ []) ≡ length gates + 1
@@ -76,21 +74,21 @@ module _ (gates : List Gate) (gate : Gate) where
 
   pub last_in_more : (buckets bucket bound c : ℕ) → bound ≤ length gates → IsLastIn buckets bucket gates bound c → IsLastIn buckets bucket (gates ++ gate ∷ []) bound c
   last_in_more buckets bucket bound c upto last = record {
-    «in» = λ less. subst (λ (g : Gate). (one : Bool) × (wire_of one g % buckets ≡ bucket)) (sym (old_at c (omega arith))) (last.«in» less);
-    none = λ p below behind. subst (λ (g : Gate). (one : Bool) → wire_of one g % buckets ≢ bucket) (sym (old_at p (omega arith))) (last.none p below behind);
+    «in» = λ less. subst (λ (g : Gate). (one : Bool) × (bucket_of buckets (wire_of one g) ≡ bucket)) (sym (old_at c (omega arith))) (last.«in» less);
+    none = λ p below behind. subst (λ (g : Gate). (one : Bool) → bucket_of buckets (wire_of one g) ≢ bucket) (sym (old_at p (omega arith))) (last.none p below behind);
     past = last.past;
   }
 
   -- the gate is the last in its buckets,
-  head_new : (buckets bucket : ℕ) (one : Bool) → wire_of one gate % buckets ≡ bucket → IsLastIn buckets bucket (gates ++ gate ∷ []) (length (gates ++ gate ∷ [])) (length gates)
+  head_new : (buckets bucket : ℕ) (one : Bool) → bucket_of buckets (wire_of one gate) ≡ bucket → IsLastIn buckets bucket (gates ++ gate ∷ []) (length (gates ++ gate ∷ [])) (length gates)
   head_new buckets bucket one is = record {
-    «in» = λ less. subst (λ (g : Gate). (one : Bool) × (wire_of one g % buckets ≡ bucket)) (sym new_at) (one, is);
+    «in» = λ less. subst (λ (g : Gate). (one : Bool) × (bucket_of buckets (wire_of one g) ≡ bucket)) (sym new_at) (one, is);
     none = λ p below behind. absurd (let l : length (gates ++ gate ∷ []) ≡ length gates + 1 = long in let b : length gates < p = behind (omega arith) in omega arith);
     past = λ above. absurd (let l : length (gates ++ gate ∷ []) ≡ length gates + 1 = long in omega arith);
   }
 
   -- and the others stay as they were
-  head_old : (buckets bucket c : ℕ) → length gates < far → IsLastIn buckets bucket gates (length gates) c → ((one : Bool) → wire_of one gate % buckets ≢ bucket) →
+  head_old : (buckets bucket c : ℕ) → length gates < far → IsLastIn buckets bucket gates (length gates) c → ((one : Bool) → bucket_of buckets (wire_of one gate) ≢ bucket) →
       IsLastIn buckets bucket (gates ++ gate ∷ []) (length (gates ++ gate ∷ [])) c
   head_old buckets bucket c few last other = record {
     «in» = λ less. among less (cases_order c (length gates));
@@ -99,27 +97,37 @@ module _ (gates : List Gate) (gate : Gate) where
   }
     where
       among : c < length (gates ++ gate ∷ []) → (c ≡ length gates) ⊎ ((c < length gates) ⊎ (length gates < c)) →
-          (one : Bool) × (wire_of one (gate_at (gates ++ gate ∷ []) c) % buckets ≡ bucket)
+          (one : Bool) × (bucket_of buckets (wire_of one (gate_at (gates ++ gate ∷ []) c)) ≡ bucket)
       among less (inl same) = (let e : c ≡ far = last.past (omega arith) in absurd (omega arith))
-      among less (inr (inl below)) = subst (λ (g : Gate). (one : Bool) × (wire_of one g % buckets ≡ bucket)) (sym (old_at c below)) (last.«in» below)
+      among less (inr (inl below)) = subst (λ (g : Gate). (one : Bool) × (bucket_of buckets (wire_of one g) ≡ bucket)) (sym (old_at c below)) (last.«in» below)
       among less (inr (inr above)) = (let l : length (gates ++ gate ∷ []) ≡ length gates + 1 = long in absurd (omega arith))
 
       none : (p : ℕ) → p < length (gates ++ gate ∷ []) → (c < length (gates ++ gate ∷ []) → c < p) → (p ≡ length gates) ⊎ ((p < length gates) ⊎ (length gates < p)) →
-          (one : Bool) → wire_of one (gate_at (gates ++ gate ∷ []) p) % buckets ≢ bucket
+          (one : Bool) → bucket_of buckets (wire_of one (gate_at (gates ++ gate ∷ []) p)) ≢ bucket
       none p below behind (inl same) =
-          subst (λ (g : Gate). (one : Bool) → wire_of one g % buckets ≢ bucket) (sym (ap (λ (k : ℕ). gate_at (gates ++ gate ∷ []) k) same ∙ new_at)) other
+          subst (λ (g : Gate). (one : Bool) → bucket_of buckets (wire_of one g) ≢ bucket) (sym (ap (λ (k : ℕ). gate_at (gates ++ gate ∷ []) k) same ∙ new_at)) other
       none p below behind (inr (inl less)) =
-          subst (λ (g : Gate). (one : Bool) → wire_of one g % buckets ≢ bucket) (sym (old_at p less))
+          subst (λ (g : Gate). (one : Bool) → bucket_of buckets (wire_of one g) ≢ bucket) (sym (old_at p less))
           (last.none p less (λ low. behind (let l : length (gates ++ gate ∷ []) ≡ length gates + 1 = long in omega arith)))
       none p below behind (inr (inr above)) = (let l : length (gates ++ gate ∷ []) ≡ length gates + 1 = long in absurd (omega arith))
 
-  module _ (links : LinksView) (linked : AreLinked gates links) (few : length gates < far) (last_first last_second : ℕ) (mid led : List Sides)
-      (is_first : IsLastOn gates (wire_of false gate) (length gates) last_first) (is_second : IsLastOn gates (wire_of true gate) (length gates) last_second)
-      (one_led : IsLed gates links.next mid last_first (wire_of false gate) (length gates))
-      (other_led : IsLed gates mid led last_second (wire_of true gate) (length gates)) where
+  -- the last place on a wire before a bound
+  last_more : (wire bound c : ℕ) → bound ≤ length gates → IsLastOn gates wire bound c → IsLastOn (gates ++ gate ∷ []) wire bound c
+  last_more wire bound c upto last = record {
+    uses = λ less. subst (λ (g : Gate). Touches g wire) (sym (old_at c (omega arith))) (last.uses less);
+    none = λ p below behind. subst (λ (g : Gate). ¬ Touches g wire) (sym (old_at p (omega arith))) (last.none p below behind);
+    past = last.past;
+  }
+
+  module _ (links : LinksView) (linked : AreLinked gates links) (few : length gates < far) (last : Sides) (led : List Sides)
+      (is_last : (b : Bool) → IsLastOn gates (wire_of b gate) (length gates) (side b last))
+      (are_led : AreLed gates gate last (record { first = length gates; second = length gates }) links.next led) where
+    nexts : length led ≡ length gates
+    nexts = are_led.long ∙ linked.nexts
+
     -- the next place on a wire of an old gate
     next_of : (p : ℕ) (one : Bool) → p < length gates → IsNextOn (gates ++ gate ∷ []) (wire_of one (gate_at gates p)) (p + 1) (side_at one led p)
-    next_of p one below = by (cases_order (wire_of one (gate_at gates p)) (wire_of false gate)) (cases_order (wire_of one (gate_at gates p)) (wire_of true gate)) (cases_order p last_first) (cases_order p last_second)
+    next_of p one below = by (are_led.each p one below)
       where
         old : IsNextOn gates (wire_of one (gate_at gates p)) (p + 1) (side_at one links.next p)
         old = linked.next p one below
@@ -142,52 +150,44 @@ module _ (gates : List Gate) (gate : Gate) where
             (touching (gate_at gates p) one) old other in
             next_old (wire_of one (gate_at gates p)) p (side_at one links.next p) few old (λ above. absurd (omega arith))
 
-        unled : wire_of one (gate_at gates p) ≢ wire_of false gate → wire_of one (gate_at gates p) ≢ wire_of true gate →
+        here : (b : Bool) → side b (record { first = length gates; second = length gates }) ≡ length gates
+        here true = refl
+        here false = refl
+
+        by : ((b : Bool) × IsLedAt gates gate last one p b × (side_at one led p ≡ side b (record { first = length gates; second = length gates })))
+            ⊎ (((b : Bool) → ¬ IsLedAt gates gate last one p b) × (side_at one led p ≡ side_at one links.next p)) →
             IsNextOn (gates ++ gate ∷ []) (wire_of one (gate_at gates p)) (p + 1) (side_at one led p)
-        unled not_first not_second =
-            at (other_led.others p one (λ here same. not_second same) ∙ one_led.others p one (λ here same. not_first same))
-            (next_old (wire_of one (gate_at gates p)) p (side_at one links.next p) few old (λ above uses.
-            (let w = touched gate (wire_of one (gate_at gates p)) uses in neither w)))
+        by (inl (b, is_led, noted)) = at (noted ∙ here b) (to_new (side b last) b is_led.on is_led.here (is_last b))
+        by (inr (none, kept)) = at kept (still (on_which gate (wire_of one (gate_at gates p))))
           where
-            neither : (b : Bool) × (wire_of one (gate_at gates p) ≡ wire_of b gate) → ⊥
-            neither (false, is) = not_first is
-            neither (true, is) = not_second is
+            still : ((b : Bool) × (wire_of one (gate_at gates p) ≡ wire_of b gate)) ⊎ (¬ Touches gate (wire_of one (gate_at gates p))) →
+                IsNextOn (gates ++ gate ∷ []) (wire_of one (gate_at gates p)) (p + 1) (side_at one links.next p)
+            still (inl (b, on)) = to_old (side b last) b on (λ same. none b (record { here = same; on = on })) (is_last b)
+            still (inr unused) = next_old (wire_of one (gate_at gates p)) p (side_at one links.next p) few old (λ above. unused)
 
-        apart : {a b : ℕ} → (a < b) ⊎ (b < a) → a ≢ b
-        apart (inl less) same = omega arith
-        apart (inr more) same = omega arith
+    previouses_more : (p : ℕ) (one : Bool) → p < length (gates ++ gate ∷ []) → (p ≡ length gates) ⊎ ((p < length gates) ⊎ (length gates < p)) →
+        IsLastOn (gates ++ gate ∷ []) (wire_of one (gate_at (gates ++ gate ∷ []) p)) p (side_at one (links.previous ++ last ∷ []) p)
+    previouses_more p one below (inl same) =
+        subst (λ (g : Gate). IsLastOn (gates ++ gate ∷ []) (wire_of one g) p (side_at one (links.previous ++ last ∷ []) p)) (sym gate_is)
+        (subst (λ (s : Sides). IsLastOn (gates ++ gate ∷ []) (wire_of one gate) p (side one s)) (sym there)
+        (subst (λ (q : ℕ). IsLastOn (gates ++ gate ∷ []) (wire_of one gate) q (side one last)) (sym same)
+        (last_more (wire_of one gate) (length gates) (side one last) (omega arith) (is_last one))))
+      where
+        there : get_or (links.previous ++ last ∷ []) p (record { first = 0; second = 0 }) ≡ last
+        there = ap (λ (k : ℕ). get_or (links.previous ++ last ∷ []) k (record { first = 0; second = 0 })) (same ∙ sym linked.previouses) ∙ get_or-append_seam links.previous last [] (record { first = 0; second = 0 })
 
-        by : (wire_of one (gate_at gates p) ≡ wire_of false gate) ⊎ ((wire_of one (gate_at gates p) < wire_of false gate) ⊎ (wire_of false gate < wire_of one (gate_at gates p))) →
-            (wire_of one (gate_at gates p) ≡ wire_of true gate) ⊎ ((wire_of one (gate_at gates p) < wire_of true gate) ⊎ (wire_of true gate < wire_of one (gate_at gates p))) →
-            (p ≡ last_first) ⊎ ((p < last_first) ⊎ (last_first < p)) → (p ≡ last_second) ⊎ ((p < last_second) ⊎ (last_second < p)) →
-            IsNextOn (gates ++ gate ∷ []) (wire_of one (gate_at gates p)) (p + 1) (side_at one led p)
-        by _ (inl second) _ (inl here) =
-            at (ap (λ (q : ℕ). side_at one led q) here ∙ other_led.led one (subst (λ (q : ℕ). q < length gates) here below) (ap (λ (q : ℕ). wire_of one (gate_at gates q)) (sym here) ∙ second))
-            (to_new last_second true second here is_second)
-        by (inl first) (inl second) (inl here) (inr there) =
-            at (other_led.others p one (λ same _. apart there same) ∙ (ap (λ (q : ℕ). side_at one mid q) here ∙ one_led.led one (subst (λ (q : ℕ). q < length gates) here below) (ap (λ (q : ℕ). wire_of one (gate_at gates q)) (sym here) ∙ first)))
-            (to_new last_first false first here is_first)
-        by (inl first) (inr not_second) (inl here) _ =
-            at (other_led.others p one (λ _ same. apart not_second same) ∙ (ap (λ (q : ℕ). side_at one mid q) here ∙ one_led.led one (subst (λ (q : ℕ). q < length gates) here below) (ap (λ (q : ℕ). wire_of one (gate_at gates q)) (sym here) ∙ first)))
-            (to_new last_first false first here is_first)
-        by (inl first) (inl second) (inr not_here) (inr there) =
-            at (other_led.others p one (λ same _. apart there same) ∙ one_led.others p one (λ same _. apart not_here same))
-            (to_old last_first false first (apart not_here) is_first)
-        by (inl first) (inr not_second) (inr not_here) _ =
-            at (other_led.others p one (λ _ same. apart not_second same) ∙ one_led.others p one (λ same _. apart not_here same))
-            (to_old last_first false first (apart not_here) is_first)
-        by (inr not_first) (inl second) _ (inr there) =
-            at (other_led.others p one (λ same _. apart there same) ∙ one_led.others p one (λ _ same. apart not_first same))
-            (to_old last_second true second (apart there) is_second)
-        by (inr not_first) (inr not_second) _ _ = unled (apart not_first) (apart not_second)
+        gate_is : gate_at (gates ++ gate ∷ []) p ≡ gate
+        gate_is = ap (λ (k : ℕ). gate_at (gates ++ gate ∷ []) k) same ∙ new_at
+    previouses_more p one below (inr (inl less)) =
+        subst (λ (g : Gate). IsLastOn (gates ++ gate ∷ []) (wire_of one g) p (side_at one (links.previous ++ last ∷ []) p)) (sym (old_at p less))
+        (subst (λ (s : Sides). IsLastOn (gates ++ gate ∷ []) (wire_of one (gate_at gates p)) p (side one s))
+        (sym (get_or-append links.previous (last ∷ []) (record { first = 0; second = 0 }) p (let l : length links.previous ≡ length gates = linked.previouses in omega arith)))
+        (last_more (wire_of one (gate_at gates p)) p _ (omega arith) (linked.previous p one less)))
+    previouses_more p one below (inr (inr above)) = absurd (let l : length (gates ++ gate ∷ []) ≡ length gates + 1 = long in omega arith)
 
     module _ (before : Sides) (buckets : ℕ) (are : buckets ≡ length links.heads)
-        (one_before : before.first ≡ get_or links.heads (wire_of false gate % buckets) 0)
-        (other_before : before.second ≡ get_or links.heads (wire_of true gate % buckets) 0)
-        (nexts : length led ≡ length gates) where
-      sides_long : length led ≡ length gates
-      sides_long = nexts
-
+        (one_before : before.first ≡ get_or links.heads (bucket_of buckets (wire_of false gate)) 0)
+        (other_before : before.second ≡ get_or links.heads (bucket_of buckets (wire_of true gate)) 0) where
       nexts_more : (p : ℕ) (one : Bool) → p < length (gates ++ gate ∷ []) → (p ≡ length gates) ⊎ ((p < length gates) ⊎ (length gates < p)) →
           IsNextOn (gates ++ gate ∷ []) (wire_of one (gate_at (gates ++ gate ∷ []) p)) (p + 1) (side_at one (led ++ (record { first = far; second = far }) ∷ []) p)
       nexts_more p one below (inl same) =
@@ -214,7 +214,7 @@ module _ (gates : List Gate) (gate : Gate) where
       nexts_more p one below (inr (inr above)) = absurd (let l : length (gates ++ gate ∷ []) ≡ length gates + 1 = long in omega arith)
 
       befores_more : (p : ℕ) (one : Bool) → p < length (gates ++ gate ∷ []) → (p ≡ length gates) ⊎ ((p < length gates) ⊎ (length gates < p)) →
-          IsLastIn (length links.heads) (wire_of one (gate_at (gates ++ gate ∷ []) p) % length links.heads) (gates ++ gate ∷ []) p (side_at one (links.before ++ before ∷ []) p)
+          IsLastIn (length links.heads) (bucket_of (length links.heads) (wire_of one (gate_at (gates ++ gate ∷ []) p))) (gates ++ gate ∷ []) p (side_at one (links.before ++ before ∷ []) p)
       befores_more p one below (inl same) = rest one
         where
           there : get_or (links.before ++ before ∷ []) p (record { first = 0; second = 0 }) ≡ before
@@ -223,99 +223,108 @@ module _ (gates : List Gate) (gate : Gate) where
           gate_is : gate_at (gates ++ gate ∷ []) p ≡ gate
           gate_is = ap (λ (k : ℕ). gate_at (gates ++ gate ∷ []) k) same ∙ new_at
 
-          side_is : (one : Bool) → side one before ≡ get_or links.heads (wire_of one gate % length links.heads) 0
-          side_is true = other_before ∙ ap (λ (b : ℕ). get_or links.heads (wire_of true gate % b) 0) are
-          side_is false = one_before ∙ ap (λ (b : ℕ). get_or links.heads (wire_of false gate % b) 0) are
+          side_is : (one : Bool) → side one before ≡ get_or links.heads (bucket_of (length links.heads) (wire_of one gate)) 0
+          side_is true = other_before ∙ ap (λ (b : ℕ). get_or links.heads (bucket_of b (wire_of true gate)) 0) are
+          side_is false = one_before ∙ ap (λ (b : ℕ). get_or links.heads (bucket_of b (wire_of false gate)) 0) are
 
-          rest : (one : Bool) → IsLastIn (length links.heads) (wire_of one (gate_at (gates ++ gate ∷ []) p) % length links.heads) (gates ++ gate ∷ []) p (side_at one (links.before ++ before ∷ []) p)
+          rest : (one : Bool) → IsLastIn (length links.heads) (bucket_of (length links.heads) (wire_of one (gate_at (gates ++ gate ∷ []) p))) (gates ++ gate ∷ []) p (side_at one (links.before ++ before ∷ []) p)
           rest one =
-              subst (λ (g : Gate). IsLastIn (length links.heads) (wire_of one g % length links.heads) (gates ++ gate ∷ []) p (side_at one (links.before ++ before ∷ []) p)) (sym gate_is)
-              (subst (λ (s : Sides). IsLastIn (length links.heads) (wire_of one gate % length links.heads) (gates ++ gate ∷ []) p (side one s)) (sym there)
-              (subst (λ (c : ℕ). IsLastIn (length links.heads) (wire_of one gate % length links.heads) (gates ++ gate ∷ []) p c) (sym (side_is one))
-              (subst (λ (q : ℕ). IsLastIn (length links.heads) (wire_of one gate % length links.heads) (gates ++ gate ∷ []) q (get_or links.heads (wire_of one gate % length links.heads) 0)) (sym same)
-              (last_in_more (length links.heads) (wire_of one gate % length links.heads) (length gates) _ (omega arith)
-              (linked.heads (wire_of one gate % length links.heads) (let s : 0 < length links.heads = linked.some in omega arith))))))
+              subst (λ (g : Gate). IsLastIn (length links.heads) (bucket_of (length links.heads) (wire_of one g)) (gates ++ gate ∷ []) p (side_at one (links.before ++ before ∷ []) p)) (sym gate_is)
+              (subst (λ (s : Sides). IsLastIn (length links.heads) (bucket_of (length links.heads) (wire_of one gate)) (gates ++ gate ∷ []) p (side one s)) (sym there)
+              (subst (λ (c : ℕ). IsLastIn (length links.heads) (bucket_of (length links.heads) (wire_of one gate)) (gates ++ gate ∷ []) p c) (sym (side_is one))
+              (subst (λ (q : ℕ). IsLastIn (length links.heads) (bucket_of (length links.heads) (wire_of one gate)) (gates ++ gate ∷ []) q (get_or links.heads (bucket_of (length links.heads) (wire_of one gate)) 0)) (sym same)
+              (last_in_more (length links.heads) (bucket_of (length links.heads) (wire_of one gate)) (length gates) _ (omega arith)
+              (linked.heads (bucket_of (length links.heads) (wire_of one gate)) (bucket_below (length links.heads) (wire_of one gate) linked.some))))))
       befores_more p one below (inr (inl less)) =
-          subst (λ (g : Gate). IsLastIn (length links.heads) (wire_of one g % length links.heads) (gates ++ gate ∷ []) p (side_at one (links.before ++ before ∷ []) p)) (sym (old_at p less))
-          (subst (λ (s : Sides). IsLastIn (length links.heads) (wire_of one (gate_at gates p) % length links.heads) (gates ++ gate ∷ []) p (side one s))
+          subst (λ (g : Gate). IsLastIn (length links.heads) (bucket_of (length links.heads) (wire_of one g)) (gates ++ gate ∷ []) p (side_at one (links.before ++ before ∷ []) p)) (sym (old_at p less))
+          (subst (λ (s : Sides). IsLastIn (length links.heads) (bucket_of (length links.heads) (wire_of one (gate_at gates p))) (gates ++ gate ∷ []) p (side one s))
           (sym (get_or-append links.before (before ∷ []) (record { first = 0; second = 0 }) p (let l : length links.before ≡ length gates = linked.befores in omega arith)))
-          (last_in_more (length links.heads) (wire_of one (gate_at gates p) % length links.heads) p _ (omega arith) (linked.before p one less)))
+          (last_in_more (length links.heads) (bucket_of (length links.heads) (wire_of one (gate_at gates p))) p _ (omega arith) (linked.before p one less)))
       befores_more p one below (inr (inr above)) = absurd (let l : length (gates ++ gate ∷ []) ≡ length gates + 1 = long in omega arith)
 
-      heads_long : length (set (set links.heads (wire_of false gate % buckets) (length gates)) (wire_of true gate % buckets) (length gates)) ≡ length links.heads
-      heads_long = length-set (set links.heads (wire_of false gate % buckets) (length gates)) (wire_of true gate % buckets) (length gates) ∙ length-set links.heads (wire_of false gate % buckets) (length gates)
+      heads_long : length (set (set links.heads (bucket_of buckets (wire_of false gate)) (length gates)) (bucket_of buckets (wire_of true gate)) (length gates)) ≡ length links.heads
+      heads_long = length-set (set links.heads (bucket_of buckets (wire_of false gate)) (length gates)) (bucket_of buckets (wire_of true gate)) (length gates) ∙ length-set links.heads (bucket_of buckets (wire_of false gate)) (length gates)
 
       heads_more : (k : ℕ) → k < length links.heads →
-          (k ≡ wire_of false gate % buckets) ⊎ ((k < wire_of false gate % buckets) ⊎ (wire_of false gate % buckets < k)) →
-          (k ≡ wire_of true gate % buckets) ⊎ ((k < wire_of true gate % buckets) ⊎ (wire_of true gate % buckets < k)) →
+          (k ≡ bucket_of buckets (wire_of false gate)) ⊎ ((k < bucket_of buckets (wire_of false gate)) ⊎ (bucket_of buckets (wire_of false gate) < k)) →
+          (k ≡ bucket_of buckets (wire_of true gate)) ⊎ ((k < bucket_of buckets (wire_of true gate)) ⊎ (bucket_of buckets (wire_of true gate) < k)) →
           IsLastIn (length links.heads) k (gates ++ gate ∷ []) (length (gates ++ gate ∷ []))
-          (get_or (set (set links.heads (wire_of false gate % buckets) (length gates)) (wire_of true gate % buckets) (length gates)) k 0)
+          (get_or (set (set links.heads (bucket_of buckets (wire_of false gate)) (length gates)) (bucket_of buckets (wire_of true gate)) (length gates)) k 0)
       heads_more k below _ (inl second) =
           subst (λ (c : ℕ). IsLastIn (length links.heads) k (gates ++ gate ∷ []) (length (gates ++ gate ∷ [])) c)
-          (sym (get_or-set_at (set links.heads (wire_of false gate % buckets) (length gates)) (wire_of true gate % buckets) k (length gates) 0 second
-          (let l : length (set links.heads (wire_of false gate % buckets) (length gates)) ≡ length links.heads = length-set links.heads (wire_of false gate % buckets) (length gates) in omega arith)))
-          (head_new (length links.heads) k true (ap (λ (b : ℕ). wire_of true gate % b) (sym are) ∙ sym second))
+          (sym (get_or-set_at (set links.heads (bucket_of buckets (wire_of false gate)) (length gates)) (bucket_of buckets (wire_of true gate)) k (length gates) 0 second
+          (let l : length (set links.heads (bucket_of buckets (wire_of false gate)) (length gates)) ≡ length links.heads = length-set links.heads (bucket_of buckets (wire_of false gate)) (length gates) in omega arith)))
+          (head_new (length links.heads) k true (ap (λ (b : ℕ). bucket_of b (wire_of true gate)) (sym are) ∙ sym second))
       heads_more k below (inl first) (inr not_second) =
           subst (λ (c : ℕ). IsLastIn (length links.heads) k (gates ++ gate ∷ []) (length (gates ++ gate ∷ [])) c)
-          (sym (get_or-set_other (set links.heads (wire_of false gate % buckets) (length gates)) (wire_of true gate % buckets) k (length gates) 0 (apart not_second)
-          ∙ get_or-set_at links.heads (wire_of false gate % buckets) k (length gates) 0 first (omega arith)))
-          (head_new (length links.heads) k false (ap (λ (b : ℕ). wire_of false gate % b) (sym are) ∙ sym first))
+          (sym (get_or-set_other (set links.heads (bucket_of buckets (wire_of false gate)) (length gates)) (bucket_of buckets (wire_of true gate)) k (length gates) 0 (apart not_second)
+          ∙ get_or-set_at links.heads (bucket_of buckets (wire_of false gate)) k (length gates) 0 first (omega arith)))
+          (head_new (length links.heads) k false (ap (λ (b : ℕ). bucket_of b (wire_of false gate)) (sym are) ∙ sym first))
         where
           apart : {a b : ℕ} → (a < b) ⊎ (b < a) → a ≢ b
           apart (inl less) same = omega arith
           apart (inr more) same = omega arith
       heads_more k below (inr not_first) (inr not_second) =
           subst (λ (c : ℕ). IsLastIn (length links.heads) k (gates ++ gate ∷ []) (length (gates ++ gate ∷ [])) c)
-          (sym (get_or-set_other (set links.heads (wire_of false gate % buckets) (length gates)) (wire_of true gate % buckets) k (length gates) 0 (apart not_second)
-          ∙ get_or-set_other links.heads (wire_of false gate % buckets) k (length gates) 0 (apart not_first)))
+          (sym (get_or-set_other (set links.heads (bucket_of buckets (wire_of false gate)) (length gates)) (bucket_of buckets (wire_of true gate)) k (length gates) 0 (apart not_second)
+          ∙ get_or-set_other links.heads (bucket_of buckets (wire_of false gate)) k (length gates) 0 (apart not_first)))
           (head_old (length links.heads) k (get_or links.heads k 0) few (linked.heads k below) neither)
         where
           apart : {a b : ℕ} → (a < b) ⊎ (b < a) → a ≢ b
           apart (inl less) same = omega arith
           apart (inr more) same = omega arith
 
-          neither : (one : Bool) → wire_of one gate % length links.heads ≢ k
-          neither true same = apart not_second (sym same ∙ ap (λ (b : ℕ). wire_of true gate % b) (sym are))
-          neither false same = apart not_first (sym same ∙ ap (λ (b : ℕ). wire_of false gate % b) (sym are))
+          neither : (one : Bool) → bucket_of (length links.heads) (wire_of one gate) ≢ k
+          neither true same = apart not_second (sym same ∙ ap (λ (b : ℕ). bucket_of b (wire_of true gate)) (sym are))
+          neither false same = apart not_first (sym same ∙ ap (λ (b : ℕ). bucket_of b (wire_of false gate)) (sym are))
 
       pub linked_more : (room : ℕ) → AreLinked (gates ++ gate ∷ []) (record {
         next = led ++ (record { first = far; second = far }) ∷ [];
+        previous = links.previous ++ last ∷ [];
         before = links.before ++ before ∷ [];
-        heads = set (set links.heads (wire_of false gate % buckets) (length gates)) (wire_of true gate % buckets) (length gates);
+        ends = links.ends ++ last_wire gate ∷ [];
+        heads = set (set links.heads (bucket_of buckets (wire_of false gate)) (length gates)) (bucket_of buckets (wire_of true gate)) (length gates);
         room = room;
       })
       linked_more room = record {
         nexts = length-append led ((record { first = far; second = far }) ∷ []) ∙ (let l : length led ≡ length gates = nexts in let m : length (gates ++ gate ∷ []) ≡ length gates + 1 = long in let e : length led + 1 ≡ length (gates ++ gate ∷ []) = omega arith in e);
+        previouses = length-append links.previous (last ∷ []) ∙ (let l : length links.previous ≡ length gates = linked.previouses in let m : length (gates ++ gate ∷ []) ≡ length gates + 1 = long in let e : length links.previous + 1 ≡ length (gates ++ gate ∷ []) = omega arith in e);
         befores = length-append links.before (before ∷ []) ∙ (let l : length links.before ≡ length gates = linked.befores in let m : length (gates ++ gate ∷ []) ≡ length gates + 1 = long in let e : length links.before + 1 ≡ length (gates ++ gate ∷ []) = omega arith in e);
         some = (let s : 0 < length links.heads = linked.some in let l = heads_long in omega (arith, heads_long));
         next = λ p one below. nexts_more p one below (cases_order p (length gates));
+        previous = λ p one below. previouses_more p one below (cases_order p (length gates));
+        ends = ap (λ (xs : List ℕ). xs ++ last_wire gate ∷ []) linked.ends ∙ sym (map-append last_wire gates (gate ∷ []));
         before = λ p one below.
-            subst (λ (b : ℕ). IsLastIn b (wire_of one (gate_at (gates ++ gate ∷ []) p) % b) (gates ++ gate ∷ []) p (side_at one (links.before ++ before ∷ []) p)) (sym heads_long)
+            subst (λ (b : ℕ). IsLastIn b (bucket_of b (wire_of one (gate_at (gates ++ gate ∷ []) p))) (gates ++ gate ∷ []) p (side_at one (links.before ++ before ∷ []) p)) (sym heads_long)
             (befores_more p one below (cases_order p (length gates)));
         heads = λ k below.
-            subst (λ (b : ℕ). IsLastIn b k (gates ++ gate ∷ []) (length (gates ++ gate ∷ [])) (get_or (set (set links.heads (wire_of false gate % buckets) (length gates)) (wire_of true gate % buckets) (length gates)) k 0)) (sym heads_long)
-            (heads_more k (subst (λ (b : ℕ). k < b) heads_long below) (cases_order k (wire_of false gate % buckets)) (cases_order k (wire_of true gate % buckets)));
+            subst (λ (b : ℕ). IsLastIn b k (gates ++ gate ∷ []) (length (gates ++ gate ∷ [])) (get_or (set (set links.heads (bucket_of buckets (wire_of false gate)) (length gates)) (bucket_of buckets (wire_of true gate)) (length gates)) k 0)) (sym heads_long)
+            (heads_more k (subst (λ (b : ℕ). k < b) heads_long below) (cases_order k (bucket_of buckets (wire_of false gate))) (cases_order k (bucket_of buckets (wire_of true gate))));
       }
 
 -- The same, where the new links are equal to these.
-pub pushed : (gates : List Gate) (gate : Gate) (old new : LinksView) (first second last_first last_second buckets : ℕ) (mid led : List Sides) (before : Sides) →
+pub pushed : (gates : List Gate) (gate : Gate) (old new : LinksView) (first second buckets : ℕ) (last : Sides) (led : List Sides) (before : Sides) →
     AreLinked gates old → length gates < far → first ≡ wire_of false gate → second ≡ wire_of true gate →
-    IsLastOn gates first (length gates) last_first → IsLastOn gates second (length gates) last_second →
-    IsLed gates old.next mid last_first first (length gates) → IsLed gates mid led last_second second (length gates) → length led ≡ length gates →
-    buckets ≡ length old.heads → before.first ≡ get_or old.heads (first % buckets) 0 → before.second ≡ get_or old.heads (second % buckets) 0 →
-    new.next ≡ led ++ (record { first = far; second = far }) ∷ [] → new.before ≡ old.before ++ before ∷ [] →
-    new.heads ≡ set (set old.heads (first % buckets) (length gates)) (second % buckets) (length gates) →
+    IsLastOn gates (wire_of false gate) (length gates) last.first → IsLastOn gates (wire_of true gate) (length gates) last.second →
+    AreLed gates gate last (record { first = length gates; second = length gates }) old.next led →
+    buckets ≡ length old.heads → before.first ≡ get_or old.heads (bucket_of buckets first) 0 → before.second ≡ get_or old.heads (bucket_of buckets second) 0 →
+    new.next ≡ led ++ (record { first = far; second = far }) ∷ [] → new.previous ≡ old.previous ++ last ∷ [] → new.before ≡ old.before ++ before ∷ [] → new.ends ≡ old.ends ++ last_wire gate ∷ [] →
+    new.heads ≡ set (set old.heads (bucket_of buckets first) (length gates)) (bucket_of buckets second) (length gates) →
     AreLinked (gates ++ gate ∷ []) new
-pushed gates gate old new first second last_first last_second buckets mid led before linked few first_is second_is is_first is_second one_led other_led long are one_before other_before nexts befores heads =
-    subst (λ (n : List Sides). AreLinked (gates ++ gate ∷ []) (record { next = n; before = new.before; heads = new.heads; room = new.room })) (sym nexts)
-    (subst (λ (b : List Sides). AreLinked (gates ++ gate ∷ []) (record { next = led ++ (record { first = far; second = far }) ∷ []; before = b; heads = new.heads; room = new.room })) (sym befores)
-    (subst (λ (h : List ℕ). AreLinked (gates ++ gate ∷ []) (record { next = led ++ (record { first = far; second = far }) ∷ []; before = old.before ++ before ∷ []; heads = h; room = new.room }))
-    (sym (heads ∙ (ap (λ (w : ℕ). set (set old.heads (w % buckets) (length gates)) (second % buckets) (length gates)) first_is
-    ∙ ap (λ (w : ℕ). set (set old.heads (wire_of false gate % buckets) (length gates)) (w % buckets) (length gates)) second_is)))
-    (linked_more gates gate old linked few last_first last_second mid led
-    (subst (λ (w : ℕ). IsLastOn gates w (length gates) last_first) first_is is_first) (subst (λ (w : ℕ). IsLastOn gates w (length gates) last_second) second_is is_second)
-    (subst (λ (w : ℕ). IsLed gates old.next mid last_first w (length gates)) first_is one_led) (subst (λ (w : ℕ). IsLed gates mid led last_second w (length gates)) second_is other_led)
-    before buckets are (one_before ∙ ap (λ (w : ℕ). get_or old.heads (w % buckets) 0) first_is) (other_before ∙ ap (λ (w : ℕ). get_or old.heads (w % buckets) 0) second_is) long new.room)))
+pushed gates gate old new first second buckets last led before linked few first_is second_is is_first is_second are_led are one_before other_before nexts previouses befores ends heads =
+    subst (λ (n : List Sides). AreLinked (gates ++ gate ∷ []) (record { next = n; previous = new.previous; before = new.before; ends = new.ends; heads = new.heads; room = new.room })) (sym nexts)
+    (subst (λ (l : List Sides). AreLinked (gates ++ gate ∷ []) (record { next = led ++ (record { first = far; second = far }) ∷ []; previous = l; before = new.before; ends = new.ends; heads = new.heads; room = new.room })) (sym previouses)
+    (subst (λ (b : List Sides). AreLinked (gates ++ gate ∷ []) (record { next = led ++ (record { first = far; second = far }) ∷ []; previous = old.previous ++ last ∷ []; before = b; ends = new.ends; heads = new.heads; room = new.room })) (sym befores)
+    (subst (λ (e : List ℕ). AreLinked (gates ++ gate ∷ []) (record { next = led ++ (record { first = far; second = far }) ∷ []; previous = old.previous ++ last ∷ []; before = old.before ++ before ∷ []; ends = e; heads = new.heads; room = new.room })) (sym ends)
+    (subst (λ (h : List ℕ). AreLinked (gates ++ gate ∷ []) (record { next = led ++ (record { first = far; second = far }) ∷ []; previous = old.previous ++ last ∷ []; before = old.before ++ before ∷ []; ends = old.ends ++ last_wire gate ∷ []; heads = h; room = new.room }))
+    (sym (heads ∙ (ap (λ (w : ℕ). set (set old.heads (bucket_of buckets w) (length gates)) (bucket_of buckets second) (length gates)) first_is
+    ∙ ap (λ (w : ℕ). set (set old.heads (bucket_of buckets (wire_of false gate)) (length gates)) (bucket_of buckets w) (length gates)) second_is)))
+    (linked_more gates gate old linked few last led both are_led before buckets are
+    (one_before ∙ ap (λ (w : ℕ). get_or old.heads (bucket_of buckets w) 0) first_is) (other_before ∙ ap (λ (w : ℕ). get_or old.heads (bucket_of buckets w) 0) second_is) new.room)))))
+  where
+    both : (b : Bool) → IsLastOn gates (wire_of b gate) (length gates) (side b last)
+    both true = is_second
+    both false = is_first
 
 -- what is left of a list whose whole front was written
 pub all_written : {X : Type 0} (n : ℕ) (xs ys : List X) → n ≡ length xs → take n (xs ++ drop (length xs) ys) ≡ xs

@@ -10,9 +10,9 @@ use Rattle.pq_gate.specs.Commuting.{Touches}
 use Rattle.pq_links.specs.declared.links.Sides.{Sides}
 use Rattle.pq_links.specs.Wires.{wire_of}
 use Rattle.pq_links.specs.Places.{gate_at}
-use Rattle.pq_links.specs.Links.{side, side_at, far, IsNextOn}
+use Rattle.pq_links.specs.Links.{side, side_at, far, IsNextOn, IsLastOn, LinksView, AreLinked}
 use Rattle.pq_links.specs.Slots.{no_wire, free_slot, spread, AreNext, ArePrevious, AreChained}
-use Rattle.pq_links.specs.Leading.{doubled, AreSpread, LeadNowhere}
+use Rattle.pq_links.specs.Leading.{doubled, AreSpread}
 use Rattle.pq_links.proofs.Changing.{free_uses, free_wire}
 
 -- there are twice as many slots
@@ -85,6 +85,49 @@ spread_next_is gates sides next few linked spread_sides q one below valid = by (
         (subst (λ (r : ℕ). IsNextOn (spread gates) (wire_of one (gate_at gates p)) (r + 1) (side_at one next r)) (sym at)
         (at_slot p inside (subst (λ (g : Gate). wire_of one g ≢ no_wire) same valid)))
 
+-- the previous place, in slots
+doubled_last : (gates : List Gate) (wire p n : ℕ) → wire ≢ no_wire → 2 * length gates < far → p < length gates → IsLastOn gates wire p n →
+    IsLastOn (spread gates) wire (2 * p) (doubled (length gates) n)
+doubled_last gates wire p n valid few inside last = by (cases_lt n p)
+  where
+    none : (q : ℕ) → q < 2 * p → (n < p → 2 * n < q) → q < length (spread gates) → ¬ Touches (gate_at (spread gates) q) wire
+    none q below behind in_list = elim (every_slot gates q in_list) [
+      | inl at ↦ subst (λ (g : Gate). ¬ Touches g wire) (sym at.3) (let e : q ≡ 2 * at.0 = at.1 in last.none at.0 (omega arith) (λ low. let b : 2 * n < q = behind low in omega arith))
+      | inr free ↦ free_uses wire (gate_at (spread gates) q) free valid
+    ]
+
+    by : (n < p) ⊎ (p ≤ n) → IsLastOn (spread gates) wire (2 * p) (doubled (length gates) n)
+    by (inl below) = subst (λ (m : ℕ). IsLastOn (spread gates) wire (2 * p) m) (sym (doubled_in (length gates) n (omega arith))) (let l : length (spread gates) ≡ 2 * length gates = length_spread gates in record {
+      uses = λ _. subst (λ (g : Gate). Touches g wire) (sym (own_slot gates n (omega arith))) (last.uses below);
+      none = λ q low behind. none q low (λ _. behind (omega arith)) (omega arith);
+      past = λ past. absurd (omega arith);
+    })
+    by (inr past) =
+        let far_is : n ≡ far = last.past past in
+        subst (λ (m : ℕ). IsLastOn (spread gates) wire (2 * p) m) (sym (doubled_past (length gates) n (omega arith))) (let l : length (spread gates) ≡ 2 * length gates = length_spread gates in record {
+          uses = λ low. absurd (omega arith);
+          none = λ q low _. none q low (λ before. absurd (omega arith)) (omega arith);
+          past = λ _. refl;
+        })
+
+spread_previous_is : (gates : List Gate) (sides previous : List Sides) → 2 * length gates < far →
+    ((p : ℕ) (one : Bool) → p < length gates → IsLastOn gates (wire_of one (gate_at gates p)) p (side_at one sides p)) →
+    AreSpread (length gates) (length gates) sides previous → ArePrevious (spread gates) previous
+spread_previous_is gates sides previous few linked spread_sides q one below valid = by (every_slot gates q below)
+  where
+    at_slot : (p : ℕ) → p < length gates → wire_of one (gate_at gates p) ≢ no_wire → IsLastOn (spread gates) (wire_of one (gate_at gates p)) (2 * p) (side_at one previous (2 * p))
+    at_slot p inside on =
+        subst (λ (n : ℕ). IsLastOn (spread gates) (wire_of one (gate_at gates p)) (2 * p) n) (sym (spread_sides.each p one inside))
+        (doubled_last gates (wire_of one (gate_at gates p)) p (side_at one sides p) on few inside (linked p one inside))
+
+    by : ((p : ℕ) × (q ≡ 2 * p) × (p < length gates) × (gate_at (spread gates) q ≡ gate_at gates p)) ⊎ (gate_at (spread gates) q ≡ free_slot) →
+        IsLastOn (spread gates) (wire_of one (gate_at (spread gates) q)) q (side_at one previous q)
+    by (inr free) = absurd (valid (free_wire one (gate_at (spread gates) q) free))
+    by (inl (p, at, inside, same)) =
+        subst (λ (g : Gate). IsLastOn (spread gates) (wire_of one g) q (side_at one previous q)) (sym same)
+        (subst (λ (r : ℕ). IsLastOn (spread gates) (wire_of one (gate_at gates p)) r (side_at one previous r)) (sym at)
+        (at_slot p inside (subst (λ (g : Gate). wire_of one g ≢ no_wire) same valid)))
+
 pub spread_starts : (total : ℕ) (sides : List Sides) → AreSpread total 0 sides []
 spread_starts total sides = record { long = refl; each = λ p one below. absurd (omega arith) }
 
@@ -114,37 +157,16 @@ spread_more total place sides next to apart old first second = (let l : length (
         ∙ get_or-append_seam next to [] (record { first = 0; second = 0 }))
         ∙ (own one ∙ ap (λ (q : ℕ). doubled total (side_at one sides q)) (sym here)))
 
-pub nowhere_starts : LeadNowhere []
-nowhere_starts p one below = absurd (omega arith)
-
-pub nowhere_more : (sides : List Sides) → LeadNowhere sides → LeadNowhere (sides ++ (record { first = far; second = far }) ∷ [])
-nowhere_more sides nowhere p one below = by (cases_lt p (length sides))
-  where
-    own : (one : Bool) → side one (record { first = far; second = far }) ≡ far
-    own true = refl
-    own false = refl
-
-    by : (p < length sides) ⊎ (length sides ≤ p) → side_at one (sides ++ (record { first = far; second = far }) ∷ []) p ≡ far
-    by (inl less) = ap (λ (s : Sides). side one s) (get_or-append sides ((record { first = far; second = far }) ∷ []) (record { first = 0; second = 0 }) p less) ∙ nowhere p one less
-    by (inr from) =
-        let here : p ≡ length sides = (let l = length-append sides ((record { first = far; second = far }) ∷ []) in omega (arith, length-append sides ((record { first = far; second = far }) ∷ []))) in
-        ap (λ (q : ℕ). side_at one (sides ++ (record { first = far; second = far }) ∷ []) q) here
-        ∙ (ap (λ (s : Sides). side one s) (get_or-append_seam sides (record { first = far; second = far }) [] (record { first = 0; second = 0 })) ∙ own one)
-
 -- the chains of slots where each gate has a free one behind it
-pub spread_next_of : (gates slots : List Gate) (sides next : List Sides) → slots ≡ spread gates → 2 * length gates < far →
-    ((p : ℕ) (one : Bool) → p < length gates → IsNextOn gates (wire_of one (gate_at gates p)) (p + 1) (side_at one sides p)) →
-    AreSpread (length gates) (length gates) sides next → AreNext slots next
-spread_next_of gates slots sides next same few linked spread_sides = subst (λ (xs : List Gate). AreNext xs next) (sym same) (spread_next_is gates sides next few linked spread_sides)
-
-pub spread_chained : (gates slots : List Gate) (sides next previous : List Sides) → slots ≡ spread gates → 2 * length gates < far →
-    ((p : ℕ) (one : Bool) → p < length gates → IsNextOn gates (wire_of one (gate_at gates p)) (p + 1) (side_at one sides p)) →
-    AreSpread (length gates) (length gates) sides next → length previous ≡ 2 * length gates → ArePrevious slots previous → AreChained slots next previous
-spread_chained gates slots sides next previous same few linked spread_sides long are_previous =
+pub spread_chained : (gates slots : List Gate) (links : LinksView) (next previous : List Sides) → slots ≡ spread gates → 2 * length gates < far → AreLinked gates links →
+    AreSpread (length links.next) (length links.next) links.next next → AreSpread (length links.previous) (length links.previous) links.previous previous → AreChained slots next previous
+spread_chained gates slots links next previous same few linked nexts previouses =
     let twice : length slots ≡ 2 * length gates = ap (λ (xs : List Gate). length xs) same ∙ length_spread gates in
+    let ahead : AreSpread (length gates) (length gates) links.next next = subst (λ (n : ℕ). AreSpread n n links.next next) linked.nexts nexts in
+    let behind : AreSpread (length gates) (length gates) links.previous previous = subst (λ (n : ℕ). AreSpread n n links.previous previous) linked.previouses previouses in
     record {
-      nexts = spread_sides.long ∙ sym twice;
-      previouses = long ∙ sym twice;
-      next = spread_next_of gates slots sides next same few linked spread_sides;
-      previous = are_previous;
+      nexts = ahead.long ∙ sym twice;
+      previouses = behind.long ∙ sym twice;
+      next = subst (λ (xs : List Gate). AreNext xs next) (sym same) (spread_next_is gates links.next next few linked.next ahead);
+      previous = subst (λ (xs : List Gate). ArePrevious xs previous) (sym same) (spread_previous_is gates links.previous previous few linked.previous behind);
     }

@@ -27,7 +27,3 @@ doubled count place = cond (nat_lt place count) (2 * place) far
 pub record AreSpread (total count : ℕ) (sides spread : List Sides) : Type 0 where
   pub long : length spread ≡ 2 * count
   pub each : (p : ℕ) (one : Bool) → p < count → side_at one spread (2 * p) ≡ doubled total (side_at one sides p)
-
--- no side leads anywhere
-abbrev pub LeadNowhere : List Sides → Type 0
-LeadNowhere sides = (p : ℕ) (one : Bool) → p < length sides → side_at one sides p ≡ far

@@ -5,9 +5,9 @@ ghost use Rattle.pq_links.specs.Wires.{wire_of};
 ghost use Rattle.pq_links.specs.Places.{gate_at};
 ghost use Rattle.pq_links.specs.Links.{AreLinked, IsLastOn};
 ghost use Rattle.pq_links.specs.Slots.{free_slot, spread, AreSlots, AreNext, ArePrevious, AreChained, IsGap};
-ghost use Rattle.pq_links.specs.Leading.{doubled, AreLed, AreSpread, LeadNowhere};
+ghost use Rattle.pq_links.specs.Leading.{doubled, AreSpread};
 
-use crate::links::{FAR, Links, NO_WIRE, Sides, lead, next_on, side_on};
+use crate::links::{FAR, Links, NO_WIRE, Sides, lead_both, next_on, side_on};
 use pq_gate::Gate;
 use pq_list::OutOfMemory;
 use std::alloc::Global;
@@ -73,10 +73,8 @@ impl Chains {
     {
         self.next.clear();
         self.previous.clear();
-        spread_next(gates, links.nexts(), &mut self.next);
-        push_nowhere(&mut self.previous, 2 * gates.len());
-        let next = self.next.as_slice();
-        fill(slots, next, self.previous.as_mut_slice());
+        spread_sides(links.nexts(), &mut self.next);
+        spread_sides(links.previouses(), &mut self.previous);
     }
 
     /// For each gate and each of its wires the next place on the wire, as `AreChained` says it.
@@ -164,37 +162,23 @@ impl Chains {
     }
 }
 
-// the next places of gates that have a free slot behind each
-fn spread_next(gates: &[Gate], sides: &[Sides], next: &mut Vec<Sides>)
-    requires long { length sides.now ≡ length gates.now }
-    requires few { 2 * length gates.now < FAR }
-    requires empty { next.old.items ≡ [] }
-    requires room { 2 * length gates.now ≤ vec_capacity next.old }
-    ensures spread { AreSpread (length gates.now) (length gates.now) sides.now next.new.items }
-    ensures len { vec_len next.new ≡ 2 * length gates.now }
-    ensures capacity { vec_capacity next.new ≡ vec_capacity next.old }
+// the neighbours of gates that have a free slot behind each
+fn spread_sides(sides: &[Sides], spread: &mut Vec<Sides>)
+    requires few { 2 * length sides.now < FAR }
+    requires empty { spread.old.items ≡ [] }
+    requires room { 2 * length sides.now ≤ vec_capacity spread.old }
+    ensures spread { AreSpread (length sides.now) (length sides.now) sides.now spread.new.items }
+    ensures len { vec_len spread.new ≡ 2 * length sides.now }
+    ensures capacity { vec_capacity spread.new ≡ vec_capacity spread.old }
 {
-    let count = gates.len();
+    let count = sides.len();
     for place in 0..count {
         let to = sides[place];
-        next.push_reserved(Sides {
+        spread.push_reserved(Sides {
             first: double(count, to.first),
             second: double(count, to.second),
         });
-        next.push_reserved(NOWHERE);
-    }
-}
-
-// sides that lead nowhere
-fn push_nowhere(sides: &mut Vec<Sides>, count: usize)
-    requires empty { sides.old.items ≡ [] }
-    requires room { count ≤ vec_capacity sides.old }
-    ensures nowhere { LeadNowhere sides.new.items }
-    ensures len { vec_len sides.new ≡ count }
-    ensures capacity { vec_capacity sides.new ≡ vec_capacity sides.old }
-{
-    for _place in 0..count {
-        sides.push_reserved(NOWHERE);
+        spread.push_reserved(NOWHERE);
     }
 }
 
@@ -208,27 +192,6 @@ fn double(count: usize, place: u16) -> u16
     } else {
         FAR as u16
     }
-}
-
-// leads on for both wires of a gate
-fn lead_both(slots: &[Gate], sides: &mut [Sides], gate: Gate, at: Sides, to: Sides)
-    requires { length sides.old ≡ length slots.now }
-    ensures { AreLed slots.now gate at to sides.old sides.new }
-{
-    lead(
-        slots,
-        sides,
-        at.first as u32,
-        gate.first_wire(),
-        to.first as u32,
-    );
-    lead(
-        slots,
-        sides,
-        at.second as u32,
-        gate.last_wire(),
-        to.second as u32,
-    );
 }
 
 // frees the slot, and links what stands before and behind it on the wires of its gate
@@ -298,22 +261,4 @@ fn link(
     next[place as usize] = after;
     previous[place as usize] = before;
     slots[place as usize] = gate;
-}
-
-// the previous places from the next ones: each is the previous one of its next one
-fn fill(slots: &[Gate], next: &[Sides], previous: &mut [Sides])
-    requires few { length slots.now < FAR }
-    requires nexts { length next.now ≡ length slots.now }
-    requires previouses { length previous.old ≡ length slots.now }
-    requires next { AreNext slots.now next.now }
-    requires nowhere { LeadNowhere previous.old }
-    ensures { ArePrevious slots.now previous.new }
-{
-    for place in 0..slots.len() {
-        let here = Sides {
-            first: place as u16,
-            second: place as u16,
-        };
-        lead_both(slots, previous, slots[place], next[place], here);
-    }
 }

@@ -1,9 +1,11 @@
-ghost use Rattle.std.specs.Prelude.{◌≡◌, ◌≢◌, ℕ, ◌+◌, ◌%◌, ◌<◌, ◌≤◌, [], ◌∷◌, ◌++◌, Bool, true, false, length, slice_index, IfOk};
+ghost use Rattle.std.specs.Prelude.{◌≡◌, ◌≢◌, ℕ, ◌+◌, ◌*◌, ◌<◌, ◌≤◌, [], ◌∷◌, ◌++◌, ◌⊎◌, Bool, true, false, length, map, slice_index, IfOk};
 ghost use Rattle.pq_gate.specs.Commuting.{Touches};
+ghost use Rattle.pq_gate.specs.Ports.{last_wire};
 ghost use Rattle.pq_links.specs.Wires.{wire_of};
 ghost use Rattle.pq_links.specs.Places.{gate_at};
-ghost use Rattle.pq_links.specs.Links.{side_at, IsNextOn, IsLastIn, IsLastOn, AreLinked, AreBefore, AreHeads};
+ghost use Rattle.pq_links.specs.Links.{bucket_of, side_at, IsNextOn, IsLastIn, IsLastOn, AreLinked, AreBefore, AreHeads};
 ghost use Rattle.pq_links.specs.Slots.{AreNext};
+ghost use Rattle.pq_links.specs.Leading.{AreLed};
 
 use pq_gate::Gate;
 use pq_list::OutOfMemory;
@@ -23,28 +25,34 @@ pub struct Sides {
     pub second: u16,
 }
 
-/// The links of a list of gates: for each gate and each of its wires the next place on that wire. Gates are
-/// appended in constant expected time: wires go into buckets by their remainders, and each gate knows the
+/// The links of a list of gates: for each gate and each of its wires the next and the previous place on that wire. Gates are
+/// appended in constant expected time: wires go into buckets by their bits, and each gate knows the
 /// last place before it in the bucket of each of its wires. Memory is taken once.
 #[derive(Drop)]
 pub struct Links {
     next: Vec<Sides>,
+    previous: Vec<Sides>,
+
+    // the last place before it in the bucket of each wire
     before: Vec<Sides>,
 
-    // for each bucket the last place in it
+    // the last wire of each gate, which is read without a look at its kind
+    ends: Vec<u32>,
+
+    // for each bucket the last place in it; as many as a power of two
     heads: Vec<u16>,
     asked: u32,
 }
 
 impl Model for Links {
-    ghost use Rattle.std.specs.Prelude.{◌≤◌, ◌<◌, vec_len, vec_capacity};
+    ghost use Rattle.std.specs.Prelude.{◌*◌, ◌≤◌, ◌<◌, vec_len, vec_capacity};
     ghost use Rattle.pq_links.specs.Links.{LinksView, far};
 
     ghost Value = { LinksView };
 
-    ghost view = { λ a. record { next = a.next.items; before = a.before.items; heads = a.heads.items; room = a.asked } };
+    ghost view = { λ a. record { next = a.next.items; previous = a.previous.items; before = a.before.items; ends = a.ends.items; heads = a.heads.items; room = a.asked } };
 
-    ghost invariant = { λ a. (a.asked ≤ vec_capacity a.next) × (a.asked ≤ vec_capacity a.before) × (a.asked < far) × (0 < vec_len a.heads) × (vec_len a.heads ≤ far) };
+    ghost invariant = { λ a. (a.asked ≤ vec_capacity a.next) × (a.asked ≤ vec_capacity a.previous) × (a.asked ≤ vec_capacity a.before) × (a.asked ≤ vec_capacity a.ends) × (a.asked < far) × (0 < vec_len a.heads) × (vec_len a.heads ≤ 2 * far) };
 }
 
 impl Links {
@@ -55,11 +63,16 @@ impl Links {
         ensures room { IfOk result (λ made. made.room ≡ room) }
     {
         let next = Vec::with_capacity(alloc, room as usize)?;
+        let previous = Vec::with_capacity(alloc, room as usize)?;
         let before = Vec::with_capacity(alloc, room as usize)?;
-        let heads = Vec::from_elem(alloc, FAR as u16, room.max(1) as usize)?;
+        let ends = Vec::with_capacity(alloc, room as usize)?;
+        let buckets = (room / 2 + 1).next_power_of_two() as usize;
+        let heads = Vec::from_elem(alloc, FAR as u16, buckets)?;
         Ok(Links {
             next,
+            previous,
             before,
+            ends,
             heads,
             asked: room,
         })
@@ -71,7 +84,9 @@ impl Links {
         ensures room { self.new.room ≡ self.old.room }
     {
         self.next.clear();
+        self.previous.clear();
         self.before.clear();
+        self.ends.clear();
         self.heads.as_mut_slice().fill(FAR as u16);
     }
 
@@ -82,29 +97,35 @@ impl Links {
         ensures linked { AreLinked (gates.now ++ gate ∷ []) self.new }
         ensures room { self.new.room ≡ self.old.room }
     {
-        let place = gates.len() as u32;
-        let first = gate.first_wire();
-        let second = gate.last_wire();
+        let place = gates.len() as u16;
         let before = self.before.as_slice();
         let heads = self.heads.as_slice();
-        let last_first = last_on(gates, before, heads, first);
-        let last_second = last_on(gates, before, heads, second);
-        let next = self.next.as_mut_slice();
-        lead(gates, next, last_first, first, place);
-        lead(gates, next, last_second, second, place);
+        let ends = self.ends.as_slice();
+        let last = last_places(gates, ends, before, heads, gate);
+        let here = Sides {
+            first: place,
+            second: place,
+        };
+        let known = Ends {
+            first: end_in(ends, last.first),
+            second: end_in(ends, last.second),
+        };
+        lead_known(gates, self.next.as_mut_slice(), gate, last, known, here);
         self.next.push_reserved(Sides {
             first: FAR as u16,
             second: FAR as u16,
         });
-        let buckets = heads.len() as u32;
-        let one = (first % buckets) as usize;
-        let other = (second % buckets) as usize;
+        self.previous.push_reserved(last);
+        let end = gate.last_wire();
+        let one = bucket_in(gate.first_wire(), heads.len());
+        let other = bucket_in(end, heads.len());
         self.before.push_reserved(Sides {
             first: heads[one],
             second: heads[other],
         });
-        self.heads[one] = place as u16;
-        self.heads[other] = place as u16;
+        self.ends.push_reserved(end);
+        self.heads[one] = place;
+        self.heads[other] = place;
     }
 
     /// Becomes the links of these gates.
@@ -135,6 +156,13 @@ impl Links {
         ensures { result.now ≡ self.now.next }
     {
         self.next.as_slice()
+    }
+
+    /// For each gate and each of its wires the previous place on the wire, as `AreLinked` says it.
+    pub fn previouses(&self) -> &[Sides]
+        ensures { result.now ≡ self.now.previous }
+    {
+        self.previous.as_slice()
     }
 
     /// For each wire of the gate at the place the least later place whose gate uses it, or `FAR` where there is
@@ -176,27 +204,53 @@ pub(crate) fn side_on(gates: &[Gate], sides: &[Sides], place: u32, wire: u32) ->
     }
 }
 
-// the last place on the wire, or FAR where there is none
-fn last_on(gates: &[Gate], before: &[Sides], heads: &[u16], wire: u32) -> u32
+// the last places on the wires of a gate
+fn last_places(gates: &[Gate], ends: &[u32], before: &[Sides], heads: &[u16], gate: Gate) -> Sides
     requires few { length gates.now < FAR }
+    requires ends { ends.now ≡ map last_wire gates.now }
     requires some { 0 < length heads.now }
-    requires buckets { length heads.now ≤ FAR }
+    requires buckets { length heads.now ≤ 2 * FAR }
     requires befores { length before.now ≡ length gates.now }
     requires before { AreBefore (length heads.now) gates.now before.now }
     requires heads { AreHeads gates.now heads.now }
-    ensures { IsLastOn gates.now wire (length gates.now) result }
+    ensures first { IsLastOn gates.now (wire_of false gate) (length gates.now) result.first }
+    ensures second { IsLastOn gates.now (wire_of true gate) (length gates.now) result.second }
 {
-    let buckets = heads.len() as u32;
-    let bucket = wire % buckets;
-    let mut place = heads[bucket as usize] as u32;
+    let wire = gate.first_wire();
+    let other = gate.last_wire();
+    let first = last_on(gates, ends, before, heads, wire) as u16;
+    if wire == other {
+        return Sides {
+            first,
+            second: first,
+        };
+    }
+    let second = last_on(gates, ends, before, heads, other) as u16;
+    Sides { first, second }
+}
+
+// the last place on the wire, or FAR where there is none
+fn last_on(gates: &[Gate], ends: &[u32], before: &[Sides], heads: &[u16], wire: u32) -> u32
+    requires few { length gates.now < FAR }
+    requires ends { ends.now ≡ map last_wire gates.now }
+    requires some { 0 < length heads.now }
+    requires buckets { length heads.now ≤ 2 * FAR }
+    requires befores { length before.now ≡ length gates.now }
+    requires before { AreBefore (length heads.now) gates.now before.now }
+    requires heads { AreHeads gates.now heads.now }
+    ensures fits { result ≤ FAR }
+    ensures last { IsLastOn gates.now wire (length gates.now) result }
+{
+    let bucket = bucket_in(wire, heads.len());
+    let mut place = heads[bucket] as u32;
     'back: while (place as usize) < gates.len() {
         let first = gates[place as usize].first_wire();
-        let second = gates[place as usize].last_wire();
-        if first == wire || second == wire {
+        let second = ends[place as usize];
+        if is_either(first, second, wire) {
             return place;
         }
         let earlier = before[place as usize];
-        place = if first % buckets == bucket {
+        place = if bucket_in(first, heads.len()) == bucket {
             earlier.first as u32
         } else {
             earlier.second as u32
@@ -205,21 +259,114 @@ fn last_on(gates: &[Gate], before: &[Sides], heads: &[u16], wire: u32) -> u32
     FAR
 }
 
-// leads on from the last gate on the wire to this place
-pub(crate) fn lead(gates: &[Gate], next: &mut [Sides], last: u32, wire: u32, place: u32)
+// the bucket of a wire
+#[tactic(auto, using(crate::proofs::Buckets::bucket_below))]
+fn bucket_in(wire: u32, buckets: usize) -> usize
+    requires some { 0 < buckets }
+    requires few { buckets ≤ 2 * FAR }
+    ensures is { result ≡ bucket_of buckets wire }
+    ensures below { result < buckets }
+{
+    let folded = wire ^ (wire >> 6) ^ (wire >> 12);
+    (folded & (buckets as u32 - 1)) as usize
+}
+
+// Whether one of two wires is this one. Which one it is can't be foretold, so it is one test.
+#[tactic(auto, using(crate::proofs::Buckets::either_same, crate::proofs::Buckets::first_apart, crate::proofs::Buckets::second_apart))]
+fn is_either(first: u32, second: u32, wire: u32) -> bool
+    ensures is { result ≡ true → (first ≡ wire) ⊎ (second ≡ wire) }
+    ensures not_first { result ≡ false → first ≢ wire }
+    ensures not_second { result ≡ false → second ≢ wire }
+{
+    (first ^ wire).min(second ^ wire) == 0
+}
+
+/// The last wires of two gates, or anything where a place has none.
+#[derive(Clone, Copy)]
+pub(crate) struct Ends {
+    first: u32,
+    second: u32,
+}
+
+// the last wire of the gate at the place
+fn end_in(ends: &[u32], place: u16) -> u32
+    ensures { place < length ends.now → result ≡ slice_index ends.now place }
+{
+    if (place as usize) < ends.len() {
+        ends[place as usize]
+    } else {
+        NO_WIRE
+    }
+}
+
+// the same, where the gates are looked at
+fn end_at(gates: &[Gate], place: u16) -> u32
+    ensures { place < length gates.now → result ≡ last_wire (gate_at gates.now place) }
+{
+    if (place as usize) < gates.len() {
+        gates[place as usize].last_wire()
+    } else {
+        NO_WIRE
+    }
+}
+
+// leads on for both wires of a gate
+pub(crate) fn lead_both(slots: &[Gate], sides: &mut [Sides], gate: Gate, at: Sides, to: Sides)
+    requires { length sides.old ≡ length slots.now }
+    ensures { AreLed slots.now gate at to sides.old sides.new }
+{
+    let ends = Ends {
+        first: end_at(slots, at.first),
+        second: end_at(slots, at.second),
+    };
+    lead_known(slots, sides, gate, at, ends, to);
+}
+
+// the same, where the last wires of the gates there are known
+fn lead_known(slots: &[Gate], sides: &mut [Sides], gate: Gate, at: Sides, ends: Ends, to: Sides)
+    requires long { length sides.old ≡ length slots.now }
+    requires first { at.first < length slots.now → ends.first ≡ last_wire (gate_at slots.now at.first) }
+    requires second { at.second < length slots.now → ends.second ≡ last_wire (gate_at slots.now at.second) }
+    ensures { AreLed slots.now gate at to sides.old sides.new }
+{
+    let wire = gate.first_wire();
+    let other = gate.last_wire();
+    lead(
+        slots,
+        sides,
+        at.first as u32,
+        ends.first,
+        wire,
+        to.first as u32,
+    );
+    if wire == other && at.first == at.second && to.first == to.second {
+        return;
+    }
+    lead(
+        slots,
+        sides,
+        at.second as u32,
+        ends.second,
+        other,
+        to.second as u32,
+    );
+}
+
+// leads on from the last gate on the wire, whose last wire is `end`, to this place
+fn lead(gates: &[Gate], next: &mut [Sides], last: u32, end: u32, wire: u32, place: u32)
     requires fits { place ≤ FAR }
+    requires end { last < length gates.now → end ≡ last_wire (gate_at gates.now last) }
     requires long { length next.old ≡ length gates.now }
     ensures led { (one : Bool) → last < length gates.now → wire_of one (gate_at gates.now last) ≡ wire → side_at one next.new last ≡ place }
     ensures others { (p : ℕ) (one : Bool) → (p ≡ last → wire_of one (gate_at gates.now p) ≡ wire → ⊥) → side_at one next.new p ≡ side_at one next.old p }
 {
     if (last as usize) < gates.len() {
         let first = gates[last as usize].first_wire();
-        let second = gates[last as usize].last_wire();
         let sides = next[last as usize];
         let to = place as u16;
         next[last as usize] = Sides {
             first: if first == wire { to } else { sides.first },
-            second: if second == wire { to } else { sides.second },
+            second: if end == wire { to } else { sides.second },
         };
     }
 }

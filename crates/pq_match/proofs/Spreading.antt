@@ -1,17 +1,35 @@
 -- Gates spread over slots, and written back.
-use Rattle.std.proofs.Common.{◌≡◌, ℕ, zero, suc, ◌+◌, ◌*◌, ◌<◌, ◌≤◌, Bool, true, false, cond, List, [], ◌∷◌, ◌++◌, length, get_or, take, drop, refl, ap, sym, subst, ◌∙◌, arith}
-use Rattle.std.proofs.lemmas.Bool.{ne_eqb}
+use Rattle.std.proofs.Common.{◌≡◌, ℕ, zero, suc, ◌+◌, ◌*◌, ◌<◌, ◌≤◌, Bool, true, false, cond, List, [], ◌∷◌, ◌++◌, length, get_or, take, drop, refl, ap, sym, subst, ◌∙◌, arith, inl, inr, ◌⊎◌}
+use Rattle.std.proofs.lemmas.Bool.{cases_lt, ne_eqb}
+use Rattle.std.proofs.Math.ListN.{get_or-append}
+use Rattle.std.proofs.Math.Seq.{get_or-append_seam}
 use Rattle.std.proofs.lemmas.List.{take_more, append-nil, length-append, take-append-drop}
 use Rattle.pq_gate.specs.declared.gate.Gate.{Gate}
+use Rattle.pq_gate.specs.declared.gate.Gate.TheVariants.{H}
 use Rattle.pq_gate.specs.Commuting.{Touches}
 use Rattle.pq_gate.specs.Ports.{first_wire}
 use Rattle.pq_gate.proofs.WireLaws.{touches_first}
+use Rattle.pq_links.specs.Places.{gate_at}
 use Rattle.pq_links.specs.Slots.{no_wire, free_slot, is_free, AreSlots, gates_in, spread}
 use Rattle.pq_match.specs.Work.{AreTaken}
 use Rattle.pq_match.proofs.RankedRewriting.{gates_in-append}
 
 taken_gate : (gate : Gate) → ¬ Touches gate no_wire → is_free gate ≡ false
 taken_gate gate apart = ne_eqb (first_wire gate) no_wire (λ same. apart (subst (Touches gate) same (touches_first gate)))
+
+-- gates of which none is free stand in slots
+pub taken_slots : (gates : List Gate) → AreTaken gates → AreSlots gates
+taken_slots gates taken p below touches = absurd (taken p below touches)
+
+-- one gate more
+pub taken_more : (gates : List Gate) (gate : Gate) → AreTaken gates → ¬ Touches gate no_wire → AreTaken (gates ++ gate ∷ [])
+taken_more gates gate taken apart p below = by (cases_lt p (length gates))
+  where
+    by : (p < length gates) ⊎ (length gates ≤ p) → ¬ Touches (gate_at (gates ++ gate ∷ []) p) no_wire
+    by (inl less) = subst (λ (g : Gate). ¬ Touches g no_wire) (sym (get_or-append gates (gate ∷ []) (H 0) p less)) (taken p less)
+    by (inr from) =
+        let here : p ≡ length gates = omega (arith, length-append gates (gate ∷ [])) in
+        subst (λ (g : Gate). ¬ Touches g no_wire) (sym (ap (λ (k : ℕ). gate_at (gates ++ gate ∷ []) k) here ∙ get_or-append_seam gates gate [] (H 0))) apart
 
 -- what was spread is held
 pub spread_gates : (gates : List Gate) → AreTaken gates → gates_in (spread gates) ≡ gates

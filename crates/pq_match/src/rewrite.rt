@@ -13,6 +13,7 @@ ghost use Rattle.pq_match.specs.Found.{IsRedexOf, Rewrites};
 use crate::laws::rewriting_keeps_the_matrix;
 use crate::redex::Redex;
 use crate::segment::Seg;
+use crate::starts::are_taken;
 use pq_gate::Gate;
 use pq_limits::MAX_ROW_WIRES;
 use pq_rules::{Row, Rules};
@@ -37,6 +38,8 @@ impl Seg {
         let left = rewrite(self.gates.as_mut_slice(), places, row);
         self.gates.truncate(left);
         self.links.build(self.gates.as_slice());
+        self.taken = are_taken(self.gates.as_slice());
+        self.loaded = false;
         rewriting_keeps_the_matrix();
         row.phase()
     }

@@ -4,13 +4,12 @@ ghost use Rattle.pq_match.specs.Redex.{gate_at};
 ghost use Rattle.pq_match.specs.Segment.{IsNextUse};
 
 use crate::slots::Slots;
-use pq_gate::{Gate, GateList};
+use pq_gate::Gate;
 use pq_limits::MAX_SEGMENT;
-use pq_links::Links;
+use pq_links::{Links, NO_WIRE};
 use pq_list::{OutOfMemory, crosses_threads};
 use std::alloc::Global;
 use std::marker::Model;
-use std::mem;
 
 /// A segment of a circuit that is being rewritten: a list of gates, and the room that was asked for.
 /// Contracts see both, as `items` and `room`. The room is taken once, and nothing that is done with the
@@ -20,25 +19,33 @@ pub struct Seg {
     pub(crate) gates: Vec<Gate>,
     pub(crate) links: Links,
 
+    // only set where no gate uses the number that stands for no wire
+    pub(crate) taken: bool,
+
     // the slots, and whether the gates that it holds stand in them
     pub(crate) work: Slots,
     pub(crate) loaded: bool,
+
+    // only clear where the gates in the slots are the segment's
+    pub(crate) rewritten: bool,
     pub(crate) asked: u32,
 }
 
 impl Model for Seg {
-    ghost use Rattle.std.specs.Prelude.{◌≡◌, ◌≤◌, vec_len, vec_capacity};
+    ghost use Rattle.std.specs.Prelude.{◌≡◌, ◌≤◌, true, false, vec_len, vec_capacity};
+    ghost use Rattle.pq_links.specs.Slots.{gates_in};
     ghost use Rattle.pq_limits.specs.declared.TheConstants.{MAX_SEGMENT};
     ghost use Rattle.pq_links.specs.Links.{AreLinked};
     ghost use Rattle.pq_match.specs.Segment.{SegView};
-    ghost use Rattle.pq_match.specs.Work.{HasRoom};
+    ghost use Rattle.pq_match.specs.Work.{AreTaken, HasRoom};
 
     ghost Value = { SegView };
 
     ghost view = { λ a. record { items = a.gates.items; room = a.asked; work = a.work; loaded = a.loaded } };
 
     ghost invariant = { λ a. HasRoom (vec_len a.gates) (vec_capacity a.gates) a.asked × (a.asked ≤ MAX_SEGMENT) × AreLinked a.gates.items a.links ×
-        (a.links.room ≡ a.asked) × (a.work.room ≡ a.asked) };
+        (a.links.room ≡ a.asked) × (a.work.room ≡ a.asked) × (a.taken ≡ true → AreTaken a.gates.items) ×
+        (a.loaded ≡ true → a.rewritten ≡ false → gates_in a.work.gates ≡ a.gates.items) };
 }
 
 impl Seg {
@@ -54,8 +61,10 @@ impl Seg {
         Ok(Seg {
             gates,
             links,
+            taken: true,
             work,
             loaded: false,
+            rewritten: false,
             asked: room,
         })
     }
@@ -74,9 +83,12 @@ impl Seg {
     {
         self.gates.clear();
         self.links.clear();
+        self.taken = true;
+        self.loaded = false;
     }
 
     /// Appends a gate.
+    #[tactic(auto, using(crate::proofs::Spreading::taken_more))]
     pub fn push(&mut self, gate: Gate)
         requires { length self.old.items < self.old.room }
         ensures items { self.new.items ≡ self.old.items ++ gate ∷ [] }
@@ -84,6 +96,8 @@ impl Seg {
     {
         self.links.push(self.gates.as_slice(), gate);
         self.gates.push_reserved(gate);
+        self.taken = self.taken && !gate.touches(NO_WIRE);
+        self.loaded = false;
     }
 
     /// The least place behind this one whose gate uses the wire, None exactly where there is none. The gate at the
@@ -109,27 +123,6 @@ impl Seg {
         ensures few { length result.now ≤ MAX_SEGMENT }
     {
         self.gates.as_slice()
-    }
-
-    /// Hands the gates over and leaves none: an empty list, which has at least the segment's room, comes in place of
-    /// theirs. No gate is copied, and no memory is taken.
-    pub fn take_gates(&mut self, empty: GateList) -> GateList
-        requires empty { empty.items ≡ [] }
-        requires enough { self.old.room ≤ empty.room }
-        ensures gates { result.items ≡ self.old.items }
-        ensures items { self.new.items ≡ [] }
-        ensures room { self.new.room ≡ self.old.room }
-    {
-        let gates = mem::replace(&mut self.gates, empty.into_vec());
-        self.links.clear();
-        GateList::of(gates)
-    }
-
-    /// The gates, without what else the segment has. None is copied, and no memory is taken.
-    pub fn into_gates(self) -> GateList
-        ensures { result.items ≡ self.items }
-    {
-        GateList::of(self.gates)
     }
 }
 

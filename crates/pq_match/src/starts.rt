@@ -1,7 +1,6 @@
 //! The first redex of a segment, start by start.
 
 ghost use Rattle.std.specs.Prelude.{◌≡◌, true, length, IfSome, IfNone};
-ghost use Rattle.pq_links.specs.Slots.{AreSlots};
 ghost use Rattle.pq_match.specs.Redex.{HasNoRedex};
 ghost use Rattle.pq_match.specs.Found.{IsFirstFound, FindsWithin};
 ghost use Rattle.pq_match.specs.Work.{AreTaken};
@@ -26,13 +25,13 @@ pub fn find_first(seg: &Seg, rules: &Rules) -> Option<Redex>
 }
 
 // the same
-#[tactic(auto, using(crate::proofs::Starting::below_none, crate::proofs::Starting::below_more, crate::proofs::Starting::below_first, crate::proofs::Starting::below_all))]
+#[tactic(auto, using(crate::proofs::Spreading::taken_slots, crate::proofs::Starting::below_none, crate::proofs::Starting::below_more, crate::proofs::Starting::below_first, crate::proofs::Starting::below_all))]
 fn first_redex(seg: &Seg, rules: &Rules) -> Option<Redex>
     ensures { FindsWithin rules.now seg.now.items (length seg.now.items) result }
 {
     let gates = seg.gates.as_slice();
     let count = gates.len() as u32;
-    if !are_taken(gates) {
+    if !seg.taken {
         return find_within(gates, rules, count);
     }
     for start in 0..count {
@@ -44,10 +43,9 @@ fn first_redex(seg: &Seg, rules: &Rules) -> Option<Redex>
     None
 }
 
-/// Whether no gate uses the number that stands for no wire. Then each gate stands in a slot.
+/// Whether no gate uses the number that stands for no wire.
 pub fn are_taken(gates: &[Gate]) -> bool
-    ensures slots { result ≡ true → AreSlots gates.now }
-    ensures taken { result ≡ true → AreTaken gates.now }
+    ensures { result ≡ true → AreTaken gates.now }
 {
     for gate in gates {
         if gate.touches(NO_WIRE) {

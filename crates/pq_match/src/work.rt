@@ -1,6 +1,6 @@
 //! Rewriting the first redex of a segment again and again, in slots.
 
-ghost use Rattle.std.specs.Prelude.{◌≡◌, false, List, length, IfSome, IfNone};
+ghost use Rattle.std.specs.Prelude.{◌≡◌, ◌≤◌, [], false, List, length, IfSome, IfNone};
 ghost use Rattle.pq_rules.specs.Row.{RowView};
 ghost use Rattle.pq_match.specs.Redex.{HasNoRedex};
 ghost use Rattle.pq_match.specs.Segment.{held, IsKnown};
@@ -8,7 +8,9 @@ ghost use Rattle.pq_match.specs.Work.{IsFirstRewritten};
 
 use crate::segment::Seg;
 use crate::starts::{are_taken, find_first};
+use pq_gate::GateList;
 use pq_rules::Rules;
+use std::mem;
 
 impl Seg {
     /// Spreads the gates over slots, where gates leave and come without moving others. All starts wait. It takes no
@@ -20,10 +22,10 @@ impl Seg {
         ensures items { self.new.items ≡ self.old.items }
         ensures room { self.new.room ≡ self.old.room }
     {
-        let gates = self.gates.as_slice();
-        self.loaded = are_taken(gates);
+        self.loaded = self.taken;
+        self.rewritten = false;
         if self.loaded {
-            self.work.load(gates, &self.links);
+            self.work.load(self.gates.as_slice(), &self.links);
         } else {
             self.work.forget();
         }
@@ -37,11 +39,43 @@ impl Seg {
         ensures work { self.new.work ≡ self.old.work }
         ensures room { self.new.room ≡ self.old.room }
     {
-        if self.loaded {
+        if self.loaded && self.rewritten {
             self.work.write(&mut self.gates);
             self.links.build(self.gates.as_slice());
-            self.loaded = false;
+            self.taken = are_taken(self.gates.as_slice());
         }
+        self.loaded = false;
+    }
+
+    /// Hands over the gates that are held and leaves none: an empty list, which has at least the segment's room, comes in
+    /// place of theirs. It takes no memory.
+    pub fn take_held(&mut self, empty: GateList) -> GateList
+        requires empty { empty.items ≡ [] }
+        requires enough { self.old.room ≤ empty.room }
+        ensures gates { result.items ≡ held self.old }
+        ensures items { self.new.items ≡ [] }
+        ensures closed { self.new.loaded ≡ false }
+        ensures room { self.new.room ≡ self.old.room }
+    {
+        if self.loaded && self.rewritten {
+            self.work.write(&mut self.gates);
+        }
+        self.loaded = false;
+        let gates = mem::replace(&mut self.gates, empty.into_vec());
+        self.links.clear();
+        self.taken = true;
+        GateList::of(gates)
+    }
+
+    /// The gates that are held, without what else the segment has. It takes no memory.
+    pub fn into_held(self) -> GateList
+        ensures { result.items ≡ held self }
+    {
+        let mut gates = self.gates;
+        if self.loaded && self.rewritten {
+            self.work.write(&mut gates);
+        }
+        GateList::of(gates)
     }
 
     /// Rewrites the first redex of the gates that are held. Answers the phase of its row, and None exactly where there is
@@ -61,6 +95,7 @@ impl Seg {
             return None;
         };
         if let Some(phase) = self.work.rewrite(rules, &redex) {
+            self.rewritten = true;
             return Some(phase);
         }
         self.gather();

@@ -1,18 +1,15 @@
 -- The oracle's answers by one rewriting after another.
-use Rattle.std.proofs.Common.{◌≤◌, ◌↔◌, ◌≡◌, ℕ, ◌+◌, ◌%◌, ◌<◌, Bool, true, false, ◌||◌, List, length, refl, ap, sym, ◌∙◌, subst, arith}
+use Rattle.std.proofs.Common.{◌≡◌, ℕ, ◌+◌, ◌%◌, ◌<◌, Bool, true, false, ◌||◌, List, length, refl, ap, sym, ◌∙◌, subst, arith}
 use Rattle.std.specs.Prelude.{All}
 use Rattle.pq_gate.specs.declared.gate.Gate.{Gate}
-use Rattle.pq_gate.specs.Circuit.{IsCircuit}
-use Rattle.pq_gate.specs.Matrix.{Same}
-use Rattle.pq_gate.proofs.SameLaws.{same_reflexive, same_transitive}
 use Rattle.pq_rules.specs.Row.{RowView, IsSound}
 use Rattle.pq_match.specs.Redex.{RedexView, HasNoRedex}
 use Rattle.pq_match.specs.First.{IsFirst}
 use Rattle.pq_match.specs.Work.{IsFirstRewritten}
-use Rattle.pq_match.proofs.Moving.{rewriting_keeps, rewriting_shortens}
+use Rattle.pq_match.proofs.Moving.{rewriting_shortens}
 use Rattle.pq_match.proofs.OneFirst.{row_sound}
 use Rattle.pq_oracle.specs.Outcomes.{answer_of}
-use Rattle.pq_oracle.proofs.Answering.{improved, unchanged}
+use Rattle.pq_oracle.proofs.Answering.{improved}
 use Rattle.pq_match.specs.Rewrite.{rewritten}
 use Rattle.pq_oracle.specs.Ora.{Answer, Ora, ends, goes, after_one, untouched}
 use Rattle.pq_oracle.specs.declared.oracle.Outcome.{Outcome}
@@ -78,33 +75,18 @@ last_one rules old now so_far small leads none =
 pub record IsLed (rules : List RowView) (old now : List Gate) (so_far : Outcome) : Type 0 where
   pub leads : LeadsTo rules old now so_far
   pub small : so_far.phase < 8
-  pub same : (n : ℕ) → IsCircuit n old → Same n old now so_far.phase
-  pub shorter : length now ≤ length old
 
 -- before the first rewriting
 pub led_yet : (rules : List RowView) (gates : List Gate) → IsLed rules gates gates (record { improved = false; phase = 0 })
-led_yet rules gates = record { leads = none_yet rules gates; small = omega arith; same = λ n circuit. same_reflexive n gates circuit; shorter = omega arith }
+led_yet rules gates = record { leads = none_yet rules gates; small = omega arith }
 
 -- one rewriting more, of the first redex
-pub led_on : (rules : List RowView) (old now new : List Gate) (so_far : Outcome) (phase : ℕ) → All IsSound rules
+pub led_on : (rules : List RowView) (old now new : List Gate) (so_far : Outcome) (phase : ℕ)
     → IsLed rules old now so_far → IsFirstRewritten rules now new phase → IsLed rules old new (record { improved = true; phase = (so_far.phase + phase) % 8 })
-led_on rules old now new so_far phase sound led done =
-    let is = done.first.is in
-    let row : IsSound is.row = row_sound rules done.redex.row is.row is.numbered sound in
-    let short : length (rewritten now is.row.replacement done.redex) < length now = rewriting_shortens rules now done.redex is row in
-    let less : length new < length now = subst (λ (xs : List Gate). length xs < length now) (sym done.rewrites.gates) short in
-    record {
-      leads = one_more rules old now new so_far done.redex done.first phase led.leads done.rewrites.gates done.rewrites.turn;
-      small = omega arith;
-      same = λ n circuit.
-          let here = led.same n circuit in
-          let kept : Same n now (rewritten now is.row.replacement done.redex) is.row.phase = rewriting_keeps rules now done.redex is n row here.right in
-          let there : Same n now new phase =
-          subst (λ (xs : List Gate). Same n now xs phase) (sym done.rewrites.gates)
-          (subst (λ (k : ℕ). Same n now (rewritten now is.row.replacement done.redex) k) (sym done.rewrites.turn) kept) in
-          same_transitive n so_far.phase phase old now new here there;
-      shorter = omega (arith, less, led.shorter);
-    }
+led_on rules old now new so_far phase led done = record {
+  leads = one_more rules old now new so_far done.redex done.first phase led.leads done.rewrites.gates done.rewrites.turn;
+  small = omega arith;
+}
 
 -- it shortens the list
 pub first_shorter : (rules : List RowView) (now new : List Gate) (phase : ℕ) → All IsSound rules → IsFirstRewritten rules now new phase → length new < length now
@@ -117,11 +99,3 @@ first_shorter rules now new phase sound done =
 pub led_oracle : (rules : List RowView) (old now : List Gate) (so_far : Outcome) → IsLed rules old now so_far
     → HasNoRedex rules now → Ora rules old (answer_of now so_far)
 led_oracle rules old now so_far led none = last_one rules old now so_far led.small led.leads none
-
-pub led_unchanged : (rules : List RowView) (old now : List Gate) (so_far : Outcome) → IsLed rules old now so_far
-    → HasNoRedex rules now → so_far.improved ≡ false → (now ≡ old) × (so_far.phase ≡ 0)
-led_unchanged rules old now so_far led none = unchanged rules old _ (led_oracle rules old now so_far led none)
-
-pub led_improved : (rules : List RowView) (old now : List Gate) (so_far : Outcome) → IsLed rules old now so_far
-    → HasNoRedex rules now → so_far.improved ≡ false ↔ HasNoRedex rules old
-led_improved rules old now so_far led none = improved rules old _ (led_oracle rules old now so_far led none)

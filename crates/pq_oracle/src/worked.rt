@@ -2,7 +2,7 @@ ghost use Rattle.std.specs.Prelude.{◌≡◌, ◌≤◌, []};
 ghost use Rattle.pq_oracle.specs.Ora.{Ora};
 ghost use Rattle.pq_oracle.specs.Outcomes.{WorkedView};
 
-use crate::oracle::{Outcome, improve};
+use crate::oracle::{Outcome, rewrite_all};
 use pq_gate::{Gate, GateList};
 use pq_list::{RoomList, crosses_threads};
 use pq_match::Seg;
@@ -42,11 +42,11 @@ impl<'r> Worked<'r> {
         ensures oracle { Ora result.rules result.input result.answer }
     {
         let mut seg = seg;
-        let outcome = improve(rules, &mut seg);
+        let outcome = rewrite_all(rules, &mut seg);
         Worked {
             ticket,
             input,
-            output: seg.into_gates(),
+            output: seg.into_held(),
             outcome,
             rules,
         }
@@ -71,11 +71,11 @@ impl<'r> Worked<'r> {
         ensures emptied { seg.new.items ≡ [] }
         ensures room { seg.new.room ≡ seg.old.room }
     {
-        let outcome = improve(rules, seg);
+        let outcome = rewrite_all(rules, seg);
         Worked {
             ticket,
             input,
-            output: seg.take_gates(room),
+            output: seg.take_held(room),
             outcome,
             rules,
         }

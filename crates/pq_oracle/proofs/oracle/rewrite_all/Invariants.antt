@@ -1,7 +1,7 @@
 use Rattle.std.proofs.Common.{◌≡◌, length}
 use Rattle.pq_match.specs.Segment.{held, IsKnown}
 use Rattle.pq_oracle.proofs.Improving.{IsLed}
-use Rattle.pq_oracle.proofs.oracle.improve.Given as goal
+use Rattle.pq_oracle.proofs.oracle.rewrite_all.Given as goal
 
 -- the segment is led from the gates that came to those that it holds now, by what came so far
 abbrev pub invariant-rewrites : goal.invariant-rewrites
