@@ -11,7 +11,7 @@ use crate::redex::Redex;
 use crate::seek::see;
 use pq_gate::{Gate, KINDS, commutes};
 use pq_limits::{MAX_GATES, MAX_ROW_GATES};
-use pq_rules::{Rules, Seen};
+use pq_rules::{Rules, Sight};
 
 // how many numbers of kinds there are, as a length
 const KIND_NUMBERS: usize = KINDS as usize;
@@ -81,14 +81,14 @@ fn next_behind(gates: &[Gate], wire: u32, place: u32, end: u32) -> u32
 }
 
 // what is seen at a place on a wire, where nothing is seen from the end on
-fn see_within(gates: &[Gate], wire: u32, place: u32, end: u32) -> Seen
+fn see_within(gates: &[Gate], wire: u32, place: u32, end: u32) -> Sight
     requires end { end ≤ length gates.now }
     ensures { IsSeenWithin gates.now wire end place result }
 {
     if place < end {
         see(gates, place, wire)
     } else {
-        Seen::Nothing
+        Sight::nothing()
     }
 }
 

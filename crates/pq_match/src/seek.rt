@@ -18,7 +18,7 @@ use crate::ties::tie;
 use pq_gate::{Gate, Ports};
 use pq_limits::MAX_ROW_GATES;
 use pq_links::{FAR, NO_WIRE, Sides, next_on};
-use pq_rules::{Rules, Seen, role_of};
+use pq_rules::{Rules, Sight};
 
 /// The first redex of the slots whose first place is the start, and what the search looked at, beside what is noted already.
 #[tactic(auto, using(crate::proofs::Marking::looks_on, crate::proofs::Marking::near_more))]
@@ -112,17 +112,17 @@ fn place_behind(gates: &[Gate], next: &[Sides], place: u32, wire: u32) -> u32
 }
 
 // what is seen at a place on a wire
-pub(crate) fn see(gates: &[Gate], place: u32, wire: u32) -> Seen
+pub(crate) fn see(gates: &[Gate], place: u32, wire: u32) -> Sight
     ensures { IsSeenAt gates.now wire place result }
 {
     if (place as usize) >= gates.len() {
-        return Seen::Nothing;
+        return Sight::nothing();
     }
     let gate = gates[place as usize];
     if gate.first_wire() == gate.last_wire() && !has_one_wire(gate) {
-        Seen::Unclear
+        Sight::unclear()
     } else {
-        Seen::Plays(role_of(gate, wire))
+        Sight::of(gate, wire)
     }
 }
 
