@@ -1,11 +1,11 @@
 //! Which starts of a search wait, and what is noted of those that failed.
 
-ghost use Rattle.std.specs.Prelude.{◌≡◌, ◌≢◌, ℕ, ◌+◌, ◌*◌, ◌<◌, ◌≤◌, ◌⊎◌, ◌↔◌, true, false, bit_and, length, slice_index, IfOk, IfSome, IfNone};
+ghost use Rattle.std.specs.Prelude.{◌≡◌, ◌≢◌, ℕ, ◌+◌, ◌*◌, ◌%◌, ◌<◌, ◌≤◌, ◌⊎◌, ◌↔◌, true, false, bit_and, length, slice_index, IfOk, IfSome, IfNone};
 ghost use Rattle.std.specs.Int.{bit_at};
 ghost use Rattle.pq_match.specs.Waiting.{HasNumber, IsWaiting, IsNotedFailed, noted, IsSameOf, WaitMore, AreWoken, AreMet};
 
 use crate::looked::Looked;
-use crate::words::{fill_below, insert, least_from, lowest_bit, remove};
+use crate::words::{fill_below, fill_evens_below, insert, least_from, lowest_bit, remove};
 use pq_links::FAR;
 use pq_list::OutOfMemory;
 use std::alloc::Global;
@@ -64,6 +64,16 @@ impl Starts {
     {
         self.lowest = 0;
         fill_below(self.waiting.as_mut_slice(), end as usize);
+    }
+
+    /// At least all even starts below this one wait.
+    pub fn wait_evens_below(&mut self, end: u32)
+        requires { end ≤ self.old.room }
+        ensures waits { (start : ℕ) → start < end → start % 2 ≡ 0 → IsWaiting self.new start }
+        ensures room { self.new.room ≡ self.old.room }
+    {
+        self.lowest = 0;
+        fill_evens_below(self.waiting.as_mut_slice(), end as usize);
     }
 
     /// The least start that waits, None where none below the end does.
