@@ -11,7 +11,7 @@ use crate::redex::Redex;
 use crate::seek::see;
 use pq_gate::{Gate, KINDS, commutes};
 use pq_limits::{MAX_GATES, MAX_ROW_GATES};
-use pq_rules::{Rules, Sight};
+use pq_rules::{Rules, Sight, kind_number};
 
 // how many numbers of kinds there are, as a length
 const KIND_NUMBERS: usize = KINDS as usize;
@@ -427,8 +427,9 @@ fn kind(gate: Gate) -> usize
 }
 
 // whether the gates are of one kind: phases, by the same eighths
+#[tactic(auto, using(pq_gate::proofs::KindLaws::same_kind))]
 pub(crate) fn are_of_one_kind(first: Gate, second: Gate) -> bool
     ensures { IsTrue result ↔ (kind_of first ≡ kind_of second) }
 {
-    first.kind() == second.kind()
+    kind_number(first) == kind_number(second)
 }

@@ -17,4 +17,4 @@ pub use check::check_row;
 pub use row::{RawRow, Row, RowFault};
 pub use rules::{BUILTIN_ROWS, MAX_ROWS, Rules};
 pub use seen::Seen;
-pub use sight::Sight;
+pub use sight::{Sight, kind_number};

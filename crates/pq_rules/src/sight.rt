@@ -75,7 +75,7 @@ fn role_number_on(gate: Gate, wire: u32) -> u8
 }
 
 /// The number of the kind of a gate.
-pub(crate) fn kind_number(gate: Gate) -> u8
+pub fn kind_number(gate: Gate) -> u8
     ensures is { result ≡ number_of (kind_of gate) }
     ensures below { result < KINDS }
 {
