@@ -20,8 +20,8 @@ pub struct Starts {
     reach: Vec<u32>,
     masks: Vec<u64>,
 
-    // of each word: none of its starts that failed looked farther
-    farthest: Vec<u32>,
+    // of each word: none of its starts that failed looked farther, or at other wires
+    looked: Vec<Looked>,
 
     // none waits in the words before this one
     lowest: u32,
@@ -35,7 +35,7 @@ impl Model for Starts {
 
     ghost view = { λ a. record { waiting = a.waiting.items; failed = a.failed.items; reach = a.reach.items; masks = a.masks.items; room = a.asked } };
 
-    ghost invariant = { λ a. HaveStartsRoom (record { waiting = a.waiting.items; failed = a.failed.items; reach = a.reach.items; masks = a.masks.items; room = a.asked }) a.farthest.items a.lowest };
+    ghost invariant = { λ a. HaveStartsRoom (record { waiting = a.waiting.items; failed = a.failed.items; reach = a.reach.items; masks = a.masks.items; room = a.asked }) a.looked.items a.lowest };
 }
 
 impl Starts {
@@ -49,13 +49,13 @@ impl Starts {
         let failed = Vec::from_elem(alloc, 0, words)?;
         let reach = Vec::from_elem(alloc, 0, 64 * words)?;
         let masks = Vec::from_elem(alloc, 0, 64 * words)?;
-        let farthest = Vec::from_elem(alloc, 0, words)?;
+        let looked = Vec::from_elem(alloc, Looked::nowhere(), words)?;
         Ok(Starts {
             waiting,
             failed,
             reach,
             masks,
-            farthest,
+            looked,
             lowest: 0,
             asked: room,
         })
@@ -79,7 +79,7 @@ impl Starts {
     {
         self.lowest = 0;
         self.failed.as_mut_slice().fill(0);
-        self.farthest.as_mut_slice().fill(0);
+        self.looked.as_mut_slice().fill(Looked::nowhere());
         fill_evens_below(self.waiting.as_mut_slice(), end as usize);
     }
 
@@ -119,6 +119,19 @@ impl Starts {
         ensures room { self.new.room ≡ self.old.room }
     {
         remove(self.waiting.as_mut_slice(), start as usize);
+        self.forget_failed(start);
+    }
+
+    // it isn't known that the start failed
+    #[tactic(auto, using(crate::proofs::WakingWords::within_fewer))]
+    fn forget_failed(&mut self, start: u32)
+        requires { start < self.old.room }
+        ensures others { (other : ℕ) → other ≢ start → IsNotedFailed self.new other ↔ IsNotedFailed self.old other }
+        ensures waiting { self.new.waiting ≡ self.old.waiting }
+        ensures reach { self.new.reach ≡ self.old.reach }
+        ensures masks { self.new.masks ≡ self.old.masks }
+        ensures room { self.new.room ≡ self.old.room }
+    {
         remove(self.failed.as_mut_slice(), start as usize);
     }
 
@@ -150,7 +163,7 @@ impl Starts {
             self.failed.as_mut_slice(),
             self.reach.as_mut_slice(),
             self.masks.as_mut_slice(),
-            self.farthest.as_mut_slice(),
+            self.looked.as_mut_slice(),
             start as usize,
             looked,
         );
@@ -168,7 +181,7 @@ impl Starts {
             self.failed.as_slice(),
             self.reach.as_slice(),
             self.masks.as_slice(),
-            self.farthest.as_slice(),
+            self.looked.as_slice(),
             first,
             end,
             wires,
@@ -183,27 +196,27 @@ fn note(
     failed: &mut [u64],
     reach: &mut [u32],
     masks: &mut [u64],
-    farthest: &mut [u32],
+    words: &mut [Looked],
     start: usize,
     looked: Looked,
 )
     requires failed { start / 64 < length failed.old }
     requires reach { start < length reach.old }
     requires masks { start < length masks.old }
-    requires farthest { start / 64 < length farthest.old }
-    requires within { AreWithin failed.old reach.old farthest.old }
+    requires words { start / 64 < length words.old }
+    requires within { AreWithin failed.old reach.old masks.old words.old }
     ensures failed { HasNumber failed.new start }
     ensures reach { slice_index reach.new start ≡ looked.reach }
     ensures masks { slice_index masks.new start ≡ looked.mask }
     ensures other_failed { (other : ℕ) → other ≢ start → HasNumber failed.new other ↔ HasNumber failed.old other }
     ensures other_reach { (other : ℕ) → other ≢ start → slice_index reach.new other ≡ slice_index reach.old other }
     ensures other_masks { (other : ℕ) → other ≢ start → slice_index masks.new other ≡ slice_index masks.old other }
-    ensures within { AreWithin failed.new reach.new farthest.new }
+    ensures within { AreWithin failed.new reach.new masks.new words.new }
 {
     insert(failed, start);
     reach[start] = looked.reach;
     masks[start] = looked.mask;
-    farthest[start / 64] = farthest[start / 64].max(looked.reach);
+    words[start / 64] = words[start / 64].and(looked);
 }
 
 // Word by word. Answers a word before which none waits.
@@ -213,7 +226,7 @@ fn wake_words(
     failed: &[u64],
     reach: &[u32],
     masks: &[u64],
-    farthest: &[u32],
+    words: &[Looked],
     first: u32,
     end: u32,
     wires: u64,
@@ -223,32 +236,32 @@ fn wake_words(
     requires failed { length failed.now ≡ length waiting.old }
     requires reach { length reach.now ≡ 64 * length waiting.old }
     requires masks { length masks.now ≡ 64 * length waiting.old }
-    requires farthest { length farthest.now ≡ length waiting.old }
-    requires within { AreWithin failed.now reach.now farthest.now }
+    requires words { length words.now ≡ length waiting.old }
+    requires within { AreWithin failed.now reach.now masks.now words.now }
     requires end { end ≤ 64 * length waiting.old }
     requires none { NoneBefore waiting.old before }
     ensures wait { AreWoken waiting.new failed.now reach.now masks.now first end wires }
     ensures kept { (start : ℕ) → HasNumber waiting.old start → HasNumber waiting.new start }
     ensures none { NoneBefore waiting.new result }
 {
-    let words = waiting.len().min(end as usize / 64 + 1);
+    let count = waiting.len().min(end as usize / 64 + 1);
     let mut lowest = before;
-    for index in 0..words {
+    for index in 0..count {
         lowest = wake_word(
-            waiting, failed, reach, masks, farthest, index, first, wires, lowest,
+            waiting, failed, reach, masks, words, index, first, wires, lowest,
         );
     }
     lowest
 }
 
-// one word, which is passed over where none of its starts looked behind the first place
-#[tactic(auto, using(crate::proofs::WakingWords::word_near, crate::proofs::WakingWords::word_still, crate::proofs::WakingWords::word_woken, crate::proofs::WakingWords::set_keeps, crate::proofs::WakingWords::none_before_set))]
+// one word, which is passed over where none of its starts looked behind the first place, or none at the wires
+#[tactic(auto, using(crate::proofs::WakingWords::word_unseen, crate::proofs::WakingWords::word_still, crate::proofs::WakingWords::word_woken, crate::proofs::WakingWords::set_keeps, crate::proofs::WakingWords::none_before_set))]
 fn wake_word(
     waiting: &mut [u64],
     failed: &[u64],
     reach: &[u32],
     masks: &[u64],
-    farthest: &[u32],
+    words: &[Looked],
     index: usize,
     first: u32,
     wires: u64,
@@ -259,14 +272,14 @@ fn wake_word(
     requires failed { length failed.now ≡ length waiting.old }
     requires reach { length reach.now ≡ 64 * length waiting.old }
     requires masks { length masks.now ≡ 64 * length waiting.old }
-    requires farthest { length farthest.now ≡ length waiting.old }
-    requires within { AreWithin failed.now reach.now farthest.now }
+    requires words { length words.now ≡ length waiting.old }
+    requires within { AreWithin failed.now reach.now masks.now words.now }
     requires none { NoneBefore waiting.old before }
     ensures wait { AreWokenIn waiting.new failed.now reach.now masks.now index first wires }
     ensures kept { (start : ℕ) → HasNumber waiting.old start → HasNumber waiting.new start }
     ensures none { NoneBefore waiting.new result }
 {
-    if farthest[index] <= first {
+    if is_unseen(words[index], first, wires) {
         return before;
     }
     let woken = waiting[index];
@@ -303,6 +316,13 @@ fn meeting(left: u64, base: usize, reach: &[u32], masks: &[u64], first: u32, wir
         found = with_if(met, found, bit);
     }
     found
+}
+
+// whether what looked at no more than this didn't look behind the first place, or at none of the wires
+fn is_unseen(looked: Looked, first: u32, wires: u64) -> bool
+    ensures { result ≡ true → (looked.reach ≤ first) ⊎ (bit_and looked.mask wires ≡ 0) }
+{
+    (looked.reach <= first) | (looked.mask & wires == 0)
 }
 
 // whether a search looked behind the first place and at one of the wires
