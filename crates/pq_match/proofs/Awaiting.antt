@@ -12,7 +12,7 @@ use Rattle.pq_links.proofs.Touching.{touched, touching}
 use Rattle.pq_match.specs.Redex.{gate_at, is_chosen, last_place}
 use Rattle.pq_match.proofs.RankedRedexes.{is_chosen_at}
 use Rattle.pq_match.specs.Waiting.{StartsView, HasNumber, IsWaiting, IsNotedFailed, IsSameOf, WaitMore, AreWoken}
-use Rattle.pq_match.specs.Settled.{IsUsedAt, TwoBetween, TwoStandBefore, AwaitBefore, AwaitBetween, AwaitOn, AwaitAround, AreSameBut, AwaitRewriting}
+use Rattle.pq_match.specs.Settled.{IsUsedAt, IsAwaitedAt, TwoBetween, TwoStandBefore, AwaitBefore, AwaitBetween, AwaitOn, AwaitAround, AreSameBut, AwaitRewriting}
 
 pub more_same : (starts : StartsView) → WaitMore starts starts
 more_same starts = record { waits = λ start is. is; failed = refl; reach = refl; masks = refl; room = refl }
@@ -160,6 +160,13 @@ around_more {slots} {places} {before} {middle} {after} {index} first second arou
     by k one below (inl less) = old k one less
     by k one below (inr last) =
         (let same : k ≡ index = omega arith in subst (λ (i : ℕ). AwaitOn slots places after (wire_of one (gate_at slots (get_or places i 0)))) (sym same) (here one))
+
+-- where both wires of the gate are one
+pub await_same : {slots : List Gate} {places : List ℕ} {starts : StartsView} {index first second : ℕ} → first ≡ second →
+    first ≡ wire_of false (gate_at slots (get_or places index 0)) → second ≡ wire_of true (gate_at slots (get_or places index 0)) →
+    IsAwaitedAt slots places starts index false → IsAwaitedAt slots places starts index true
+await_same {slots} {places} {starts} {index} {first} {second} same first_is second_is =
+    subst (λ (w : ℕ). IsUsedAt slots places index w ⊎ AwaitOn slots places starts w) (sym first_is ∙ (same ∙ second_is))
 
 -- a gate that uses the wire
 pub used_at : {slots : List Gate} {places : List ℕ} {count at wire : ℕ} → at < count → Touches (gate_at slots (get_or places at 0)) wire → IsUsedAt slots places count wire

@@ -1,12 +1,12 @@
 -- Sets of numbers in words of 64 bits.
-use Rattle.std.proofs.Common.{◌≡◌, ◌≢◌, ℕ, ◌+◌, ◌-◌, ◌*◌, ◌/◌, ◌%◌, ◌^◌, ◌<◌, ◌≤◌, ◌⊎◌, List, length, get_or, set, bit_or, bit_and, inl, inr, sym, ap, subst, ◌∙◌, arith}
+use Rattle.std.proofs.Common.{◌≡◌, ◌≢◌, ℕ, zero, suc, ◌+◌, ◌-◌, ◌*◌, ◌/◌, ◌%◌, ◌^◌, ◌<◌, ◌≤◌, ◌⊎◌, Bool, true, false, cond, eqb, List, length, get_or, set, bit_or, bit_and, inl, inr, refl, sym, ap, subst, ◌∙◌, arith}
 use Rattle.std.specs.Prelude.{◌↔◌}
 use Rattle.std.specs.Int.{bit_at, bit_not, trailing_zeros, w64}
-use Rattle.std.proofs.lemmas.Bool.{cases_eq, cases_lt}
+use Rattle.std.proofs.lemmas.Bool.{cases_eq, cases_lt, both_ways, eqb-true}
 use Rattle.std.proofs.lemmas.Nat.{mod_below}
-use Rattle.std.proofs.lemmas.Nat.Bits.{bit_at_set_same, bit_at_set_other, bit_at_clear_same, bit_at_clear_other, bit_at-zero, bit_at-trailing_zeros, bit_at_ones, bit_at_ones_above, ones_shr}
+use Rattle.std.proofs.lemmas.Nat.Bits.{bit_at_set_same, bit_at_set_other, bit_at_clear_same, bit_at_clear_other, bit_at-zero, bit_at-trailing_zeros, bit_at_ones, bit_at_ones_above, ones_shr, bit_at_and}
 use Rattle.std.proofs.lemmas.List.{get_or-set_same, get_or-set_other}
-use Rattle.pq_match.specs.Waiting.{HasNumber, AreOnes}
+use Rattle.pq_match.specs.Waiting.{HasNumber, AreOnes, HasEvens}
 
 -- the word of a number changed
 module _ (words : List ℕ) (number value : ℕ) (inside : number / 64 < length words) where
@@ -132,3 +132,39 @@ filled {words} {end} are number inside =
     let ones = (are.each (number / 64) inside).bits (number % 64) (mod_below number 64 (omega arith)) in
     let parts : number / 64 * 64 + number % 64 ≡ number = omega arith in
     (λ it. subst (λ (n : ℕ). n < end) parts (ones.0 it.has), λ less. record { has = ones.1 (subst (λ (n : ℕ). n < end) (sym parts) less) })
+
+-- the word of the even numbers has each of them
+has_evens : ℕ → Bool
+has_evens zero = true
+has_evens (suc n) = cond (eqb (bit_at 6148914691236517205 (2 * n)) 1) (has_evens n) false
+
+both_hold : (first second : Bool) → cond first second false ≡ true → (first ≡ true) × (second ≡ true)
+both_hold true second is = (refl, is)
+both_hold false second is = absurd (both_ways false refl is)
+
+even_in : (n half : ℕ) → has_evens n ≡ true → half < n → bit_at 6148914691236517205 (2 * half) ≡ 1
+unfolding has_evens
+even_in zero half all below = absurd (omega arith)
+even_in (suc n) half all below =
+    let parts : (eqb (bit_at 6148914691236517205 (2 * n)) 1 ≡ true) × (has_evens n ≡ true) = both_hold (eqb (bit_at 6148914691236517205 (2 * n)) 1) (has_evens n) all in
+    elim (cases_eq half n) [
+      | inl same ↦ ap (λ (k : ℕ). bit_at 6148914691236517205 (2 * k)) same ∙ eqb-true (bit_at 6148914691236517205 (2 * n)) 1 parts.0
+      | inr apart ↦ even_in n half parts.1 (omega arith)
+    ]
+
+pub evens_of : {end first word : ℕ} → AreOnes end first word → HasEvens end first (bit_and word 6148914691236517205)
+unfolding has_evens
+evens_of {end} {first} {word} ones = record {
+  bits = λ bit below inside even.
+      (let half : 2 * (bit / 2) ≡ bit = omega arith in
+      let set : bit_at 6148914691236517205 bit ≡ 1 = ap (bit_at 6148914691236517205) (sym half) ∙ even_in 32 (bit / 2) refl (omega arith) in
+      omega (arith, bit_at_and word 6148914691236517205 bit, set, (ones.bits bit below).1 inside));
+}
+
+-- the first words have the even numbers below the end
+pub record HaveEvensTo (words : List ℕ) (end count : ℕ) : Type 0 where
+  pub each : (word : ℕ) → word < count → HasEvens end (word * 64) (get_or words word 0)
+
+pub evens_filled : {words : List ℕ} {end : ℕ} → HaveEvensTo words end (length words) → (number : ℕ) → number / 64 < length words → number < end → number % 2 ≡ 0 → HasNumber words number
+evens_filled {words} {end} have number inside less even =
+    record { has = (have.each (number / 64) inside).bits (number % 64) (mod_below number 64 (omega arith)) (omega arith) (omega arith) }

@@ -1,4 +1,4 @@
-use Rattle.std.proofs.Common.{◌≡◌, ℕ, true, false, sym, subst, ◌∙◌}
+use Rattle.std.proofs.Common.{◌≡◌, ℕ, true, false, refl, sym, subst, ◌∙◌}
 use Rattle.std.specs.Prelude.{◌↔◌}
 use Rattle.pq_gate.specs.declared.gate.Gate.{Gate}
 use Rattle.pq_gate.specs.Ports.{first_wire, last_wire}
@@ -36,3 +36,24 @@ alike_at_first of_wire of_gate wire gate p_is v_is alike = (λ e. (alike false).
 pub alike_at_last : (of_wire : ℕ) (of_gate : Gate) (wire : ℕ) (gate : Gate) {q w : ℕ} → q ≡ last_wire of_gate → w ≡ last_wire gate →
     IsAlike of_wire of_gate wire gate → (wire ≡ w) ↔ (of_wire ≡ q)
 alike_at_last of_wire of_gate wire gate q_is w_is alike = (λ e. (alike true).0 (e ∙ w_is) ∙ sym q_is, λ e. (alike true).1 (e ∙ q_is) ∙ sym w_is)
+
+-- a gate against itself, by its two wires
+pub alone_alike : (of_gate gate : Gate) (first last of_first of_last : ℕ) → first ≡ first_wire gate → last ≡ last_wire gate → of_first ≡ first_wire of_gate → of_last ≡ last_wire of_gate →
+    ((first ≡ last) ↔ (of_first ≡ of_last)) ↔ AreAlike of_gate of_gate gate gate
+alone_alike of_gate gate first last of_first of_last f l of_f of_l = (to, back)
+  where
+    there : (first ≡ last) ↔ (of_first ≡ of_last) → first_wire gate ≡ last_wire gate → first_wire of_gate ≡ last_wire of_gate
+    there is same = sym of_f ∙ (is.0 (f ∙ (same ∙ sym l)) ∙ of_l)
+
+    here : (first ≡ last) ↔ (of_first ≡ of_last) → first_wire of_gate ≡ last_wire of_gate → first_wire gate ≡ last_wire gate
+    here is same = sym f ∙ (is.1 (of_f ∙ (same ∙ sym of_l)) ∙ l)
+
+    to : (first ≡ last) ↔ (of_first ≡ of_last) → AreAlike of_gate of_gate gate gate
+    to is false false = (λ same. refl, λ same. refl)
+    to is false true = (there is, here is)
+    to is true false = (λ same. sym (there is (sym same)), λ same. sym (here is (sym same)))
+    to is true true = (λ same. refl, λ same. refl)
+
+    back : AreAlike of_gate of_gate gate gate → (first ≡ last) ↔ (of_first ≡ of_last)
+    back alike =
+        (λ same. of_f ∙ ((alike false true).0 (sym f ∙ (same ∙ l)) ∙ sym of_l), λ same. f ∙ ((alike false true).1 (sym of_f ∙ (same ∙ of_l)) ∙ sym l))

@@ -1,5 +1,5 @@
 -- No redex begins at a start that is settled.
-use Rattle.std.proofs.Common.{◌≡◌, ℕ, ◌+◌, ◌<◌, ◌≤◌, ◌⊎◌, inl, inr, List, [], ◌∷◌, length, get_or, refl, sym, ap, subst, arith}
+use Rattle.std.proofs.Common.{◌≡◌, ℕ, zero, suc, ◌+◌, ◌%◌, ◌<◌, ◌≤◌, ◌⊎◌, inl, inr, List, [], ◌∷◌, length, get_or, refl, sym, ap, subst, arith}
 use Rattle.std.specs.Prelude.{All}
 use Rattle.std.proofs.lemmas.Bool.{cases_eq, cases_lt}
 use Rattle.pq_gate.specs.declared.gate.Gate.{Gate}
@@ -10,7 +10,7 @@ use Rattle.pq_rules.specs.Seen.{is_admitting}
 use Rattle.pq_gate.specs.Ports.{last_wire}
 use Rattle.pq_rules.specs.declared.seen.Seen.{Seen}
 use Rattle.pq_links.specs.Links.{IsNextOn}
-use Rattle.pq_links.specs.Slots.{free_slot, AreSlots}
+use Rattle.pq_links.specs.Slots.{free_slot, spread, AreSlots}
 use Rattle.pq_match.specs.Redex.{RedexView, IsRedex, gate_at}
 use Rattle.pq_match.specs.First.{HasNoneAmong}
 use Rattle.pq_match.specs.Seek.{StartsAt, IsSeenAt, HasFailed}
@@ -125,3 +125,16 @@ still_ahead rules slots start one other near far next then_next past near_is far
     by : IsNextOn slots (last_wire (gate_at slots start)) (one + 1) other ⊎ (length slots ≤ one) → one < length slots → IsNextOn slots (last_wire (gate_at slots start)) (one + 1) other
     by (inl is) inside = is
     by (inr out) inside = absurd (omega arith)
+
+-- the slots behind those of gates that were spread are free
+free_behind : (gates : List Gate) (start : ℕ) → start < length (spread gates) → (start % 2 ≡ 0 → ⊥) → gate_at (spread gates) start ≡ free_slot
+free_behind [] start below odd = absurd (omega arith)
+free_behind (gate ∷ gates) zero below odd = absurd (odd refl)
+free_behind (gate ∷ gates) (suc zero) below odd = refl
+free_behind (gate ∷ gates) (suc (suc start)) below odd = free_behind gates start (omega arith) (λ even. odd (omega arith))
+
+pub gates_wait : (gates : List Gate) (starts : StartsView) → ((start : ℕ) → start < length (spread gates) → start % 2 ≡ 0 → IsWaiting starts start) →
+    (rules : List RowView) → AreSettled rules (spread gates) starts
+gates_wait gates starts waits rules = record {
+  settled = λ start below asleep. inl (free_behind gates start below (λ even. asleep (waits start below even)));
+}

@@ -88,6 +88,11 @@ pub record IsUsedAt (slots : List Gate) (places : List ℕ) (count wire : ℕ) :
   pub below : at < count
   pub is : wire_of one (gate_at slots (slice_index places at)) ≡ wire
 
+-- the starts on one wire of the gate at a place wait, or an earlier one uses that wire too
+abbrev pub IsAwaitedAt : List Gate → List ℕ → StartsView → ℕ → Bool → Type 0
+IsAwaitedAt slots places starts index one =
+    IsUsedAt slots places index (wire_of one (gate_at slots (slice_index places index))) ⊎ AwaitOn slots places starts (wire_of one (gate_at slots (slice_index places index)))
+
 -- two gates on the wire stand behind the start and before a place
 pub record TwoBetween (slots : List Gate) (wire start place : ℕ) : Type 0 where
   pub near : ℕ

@@ -1,6 +1,6 @@
 //! What a search looked at.
 
-ghost use Rattle.std.specs.Prelude.{◌≡◌, ◌+◌, ◌<◌, Bool};
+ghost use Rattle.std.specs.Prelude.{◌≡◌, ◌+◌, ◌<◌, Bool, max, bit_or};
 ghost use Rattle.pq_links.specs.Links.{far};
 ghost use Rattle.pq_links.specs.Wires.{wire_of};
 ghost use Rattle.pq_match.specs.Seek.{HasBit, MarksAll, LooksAtMore};
@@ -34,6 +34,17 @@ impl Looked {
         Looked {
             reach: start + 1,
             mask: 0,
+        }
+    }
+
+    /// What either looked at.
+    pub fn and(self, other: Looked) -> Looked
+        ensures reach { result.reach ≡ max self.reach other.reach }
+        ensures mask { result.mask ≡ bit_or self.mask other.mask }
+    {
+        Looked {
+            reach: self.reach.max(other.reach),
+            mask: self.mask | other.mask,
         }
     }
 

@@ -11,7 +11,7 @@ use crate::redex::Redex;
 use crate::seek::see;
 use pq_gate::{Gate, KINDS, commutes};
 use pq_limits::{MAX_GATES, MAX_ROW_GATES};
-use pq_rules::{Rules, Seen};
+use pq_rules::{Rules, Sight, kind_number};
 
 // how many numbers of kinds there are, as a length
 const KIND_NUMBERS: usize = KINDS as usize;
@@ -81,14 +81,14 @@ fn next_behind(gates: &[Gate], wire: u32, place: u32, end: u32) -> u32
 }
 
 // what is seen at a place on a wire, where nothing is seen from the end on
-fn see_within(gates: &[Gate], wire: u32, place: u32, end: u32) -> Seen
+fn see_within(gates: &[Gate], wire: u32, place: u32, end: u32) -> Sight
     requires end { end ≤ length gates.now }
     ensures { IsSeenWithin gates.now wire end place result }
 {
     if place < end {
         see(gates, place, wire)
     } else {
-        Seen::Nothing
+        Sight::nothing()
     }
 }
 
@@ -140,7 +140,7 @@ fn find_row(
     if second < pattern.len() && !near[kind(pattern[second])] {
         return None;
     }
-    let Some(places) = extend_at(gates, pattern, end, &[0; MAX_ROW_GATES], 0, start) else {
+    let Some(places) = extend_by_kind(gates, pattern, end, &[0; MAX_ROW_GATES], 0, start) else {
         return None;
     };
     Some(Redex {
@@ -182,6 +182,7 @@ fn extend_at(
     requires end { end ≤ length gates.now }
     requires next { count < length pattern.now }
     requires place { place < end }
+    requires kind { kind_of (gate_at gates.now place) ≡ kind_of (gate_at pattern.now count) }
     requires grown { IsGrown gates.now pattern.now end places.now count }
     requires behind { IsNext gates.now places.now count place }
     requires eight { AreEight places.now count }
@@ -330,7 +331,7 @@ fn may_use(gate: Gate, used: &[bool; 64]) -> bool
     used[gate.first_wire() as usize % 64] || used[gate.last_wire() as usize % 64]
 }
 
-// whether the gate at the last of the places fits to the pattern, and to the gates before it
+// whether the gate at the last of the places, which is of the pattern's kind there, fits to the gates before it
 pub(crate) fn fits(
     gates: &[Gate],
     pattern: &[Gate],
@@ -340,18 +341,32 @@ pub(crate) fn fits(
     requires next { last < length pattern.now }
     requires short { length pattern.now ≤ MAX_ROW_GATES }
     requires inside { (s : ℕ) → s ≤ last → slice_index places.now s < length gates.now }
+    requires kind { kind_of (gate_at gates.now (slice_index places.now last)) ≡ kind_of (gate_at pattern.now last) }
     ensures { IsTrue result ↔ IsFitting gates.now pattern.now places.now last }
 {
     let gate = gates[places[last] as usize];
-    if !are_of_one_kind(gate, pattern[last]) {
+    let of_gate = pattern[last];
+    if !is_alike_alone(of_gate, gate) {
         return false;
     }
-    for s in 0..=last {
-        if !are_alike(pattern[s], pattern[last], gates[places[s] as usize], gate) {
+    for s in 0..last {
+        if !are_alike(pattern[s], of_gate, gates[places[s] as usize], gate) {
             return false;
         }
     }
     true
+}
+
+// whether the two wires of the gate are equal exactly where those of the pattern's gate are
+fn is_alike_alone(of_gate: Gate, gate: Gate) -> bool
+    ensures { IsTrue result ↔ AreAlike of_gate of_gate gate gate }
+{
+    are_one_where(
+        gate.first_wire(),
+        gate.last_wire(),
+        of_gate.first_wire(),
+        of_gate.last_wire(),
+    )
 }
 
 // whether the gate at the place commutes with all the chosen gates
@@ -427,8 +442,9 @@ fn kind(gate: Gate) -> usize
 }
 
 // whether the gates are of one kind: phases, by the same eighths
+#[tactic(auto, using(pq_gate::proofs::KindLaws::same_kind))]
 pub(crate) fn are_of_one_kind(first: Gate, second: Gate) -> bool
     ensures { IsTrue result ↔ (kind_of first ≡ kind_of second) }
 {
-    first.kind() == second.kind()
+    kind_number(first) == kind_number(second)
 }

@@ -4,6 +4,7 @@
 ghost use Rattle.std.specs.Prelude.{◌≡◌, ◌≢◌, ℕ, ◌+◌, ◌-◌, ◌<◌, ◌≤◌, length, slice_index, slice_set, true, ◌⊎◌};
 ghost use Rattle.pq_gate.specs.Circuit.{IsCircuit};
 ghost use Rattle.pq_gate.specs.Commuting.{Touches};
+ghost use Rattle.pq_gate.specs.Kind.{kind_of};
 ghost use Rattle.pq_links.specs.Links.{IsNextOn};
 ghost use Rattle.pq_match.specs.Redex.{gate_at};
 ghost use Rattle.pq_match.specs.Search.{IsNext, IsGrown, AreEight};
@@ -18,7 +19,7 @@ use crate::ties::tie;
 use pq_gate::{Gate, Ports};
 use pq_limits::MAX_ROW_GATES;
 use pq_links::{FAR, NO_WIRE, Sides, next_on};
-use pq_rules::{Rules, Seen, role_of};
+use pq_rules::{Rules, Sight};
 
 /// The first redex of the slots whose first place is the start, and what the search looked at, beside what is noted already.
 #[tactic(auto, using(crate::proofs::Marking::looks_on, crate::proofs::Marking::near_more))]
@@ -112,17 +113,17 @@ fn place_behind(gates: &[Gate], next: &[Sides], place: u32, wire: u32) -> u32
 }
 
 // what is seen at a place on a wire
-pub(crate) fn see(gates: &[Gate], place: u32, wire: u32) -> Seen
+pub(crate) fn see(gates: &[Gate], place: u32, wire: u32) -> Sight
     ensures { IsSeenAt gates.now wire place result }
 {
     if (place as usize) >= gates.len() {
-        return Seen::Nothing;
+        return Sight::nothing();
     }
     let gate = gates[place as usize];
     if gate.first_wire() == gate.last_wire() && !has_one_wire(gate) {
-        Seen::Unclear
+        Sight::unclear()
     } else {
-        Seen::Plays(role_of(gate, wire))
+        Sight::of(gate, wire)
     }
 }
 
@@ -156,7 +157,8 @@ fn seek_row(
     };
     let pattern = row.pattern();
     let cursors = Cursors::new();
-    let Some(places) = choose(gates, next, pattern, &[0; 8], 0, &cursors, start, looked) else {
+    let Some(places) = choose_by_kind(gates, next, pattern, &[0; 8], 0, &cursors, start, looked)
+    else {
         return None;
     };
     Some(Redex {
@@ -183,6 +185,7 @@ fn choose(
     requires on_wires { IsCircuit 3 pattern.now }
     requires next { count < length pattern.now }
     requires place { place < length gates.now }
+    requires kind { kind_of (gate_at gates.now place) ≡ kind_of (gate_at pattern.now count) }
     requires grown { IsGrown gates.now pattern.now (length gates.now) places.now count }
     requires behind { IsNext gates.now places.now count place }
     requires eight { AreEight places.now count }
@@ -211,6 +214,7 @@ fn choose(
 }
 
 // The same, where the kind of the gate is looked at first.
+#[inline(always)]
 #[cycle(seeking)]
 fn choose_by_kind(
     gates: &[Gate],

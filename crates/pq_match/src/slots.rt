@@ -71,8 +71,8 @@ impl Slots {
         })
     }
 
-    /// Becomes the slots of these gates: each has a slot of its own with a free one behind it, and all starts wait.
-    #[tactic(auto, using(crate::proofs::Spreading::spread_slots, crate::proofs::Spreading::spread_few, crate::proofs::Spreading::spread_long))]
+    /// Becomes the slots of these gates: each has a slot of its own with a free one behind it, and waits.
+    #[tactic(auto, using(crate::proofs::Spreading::spread_slots, crate::proofs::Spreading::spread_few, crate::proofs::Spreading::spread_long, crate::proofs::Settling::gates_wait))]
     pub fn load(&mut self, gates: &[Gate], links: &Links)
         requires linked { AreLinked gates.now links.now }
         requires taken { AreTaken gates.now }
@@ -83,7 +83,7 @@ impl Slots {
     {
         spread_over(&mut self.gates, gates);
         self.chains.spread(gates, links, self.gates.as_slice());
-        self.starts.wait_below(self.gates.len() as u32);
+        self.starts.wait_evens_below(self.gates.len() as u32);
     }
 
     /// All starts wait.

@@ -1,11 +1,11 @@
 //! Which starts of a search wait, and what is noted of those that failed.
 
-ghost use Rattle.std.specs.Prelude.{◌≡◌, ◌≢◌, ℕ, ◌+◌, ◌*◌, ◌<◌, ◌≤◌, ◌⊎◌, ◌↔◌, true, false, bit_and, length, slice_index, IfOk, IfSome, IfNone};
+ghost use Rattle.std.specs.Prelude.{◌≡◌, ◌≢◌, ℕ, ◌+◌, ◌*◌, ◌/◌, ◌%◌, ◌<◌, ◌≤◌, ◌⊎◌, ◌↔◌, true, false, bit_and, length, slice_index, IfOk, IfSome, IfNone};
 ghost use Rattle.std.specs.Int.{bit_at};
-ghost use Rattle.pq_match.specs.Waiting.{HasNumber, IsWaiting, IsNotedFailed, noted, IsSameOf, WaitMore, AreWoken, AreMet};
+ghost use Rattle.pq_match.specs.Waiting.{HasNumber, IsWaiting, IsNotedFailed, noted, IsSameOf, WaitMore, AreWoken, AreWokenIn, AreWithin, NoneBefore, AreMet};
 
 use crate::looked::Looked;
-use crate::words::{fill_below, insert, least_from, lowest_bit, remove};
+use crate::words::{fill_below, fill_evens_below, insert, least_from, lowest_bit, remove};
 use pq_links::FAR;
 use pq_list::OutOfMemory;
 use std::alloc::Global;
@@ -20,6 +20,9 @@ pub struct Starts {
     reach: Vec<u32>,
     masks: Vec<u64>,
 
+    // of each word: none of its starts that failed looked farther, or at other wires
+    looked: Vec<Looked>,
+
     // none waits in the words before this one
     lowest: u32,
     asked: u32,
@@ -32,7 +35,7 @@ impl Model for Starts {
 
     ghost view = { λ a. record { waiting = a.waiting.items; failed = a.failed.items; reach = a.reach.items; masks = a.masks.items; room = a.asked } };
 
-    ghost invariant = { λ a. HaveStartsRoom (record { waiting = a.waiting.items; failed = a.failed.items; reach = a.reach.items; masks = a.masks.items; room = a.asked }) a.lowest };
+    ghost invariant = { λ a. HaveStartsRoom (record { waiting = a.waiting.items; failed = a.failed.items; reach = a.reach.items; masks = a.masks.items; room = a.asked }) a.looked.items a.lowest };
 }
 
 impl Starts {
@@ -46,11 +49,13 @@ impl Starts {
         let failed = Vec::from_elem(alloc, 0, words)?;
         let reach = Vec::from_elem(alloc, 0, 64 * words)?;
         let masks = Vec::from_elem(alloc, 0, 64 * words)?;
+        let looked = Vec::from_elem(alloc, Looked::nowhere(), words)?;
         Ok(Starts {
             waiting,
             failed,
             reach,
             masks,
+            looked,
             lowest: 0,
             asked: room,
         })
@@ -64,6 +69,18 @@ impl Starts {
     {
         self.lowest = 0;
         fill_below(self.waiting.as_mut_slice(), end as usize);
+    }
+
+    /// At least all even starts below this one wait.
+    pub fn wait_evens_below(&mut self, end: u32)
+        requires { end ≤ self.old.room }
+        ensures waits { (start : ℕ) → start < end → start % 2 ≡ 0 → IsWaiting self.new start }
+        ensures room { self.new.room ≡ self.old.room }
+    {
+        self.lowest = 0;
+        self.failed.as_mut_slice().fill(0);
+        self.looked.as_mut_slice().fill(Looked::nowhere());
+        fill_evens_below(self.waiting.as_mut_slice(), end as usize);
     }
 
     /// The least start that waits, None where none below the end does.
@@ -102,6 +119,19 @@ impl Starts {
         ensures room { self.new.room ≡ self.old.room }
     {
         remove(self.waiting.as_mut_slice(), start as usize);
+        self.forget_failed(start);
+    }
+
+    // it isn't known that the start failed
+    #[tactic(auto, using(crate::proofs::WakingWords::within_fewer))]
+    fn forget_failed(&mut self, start: u32)
+        requires { start < self.old.room }
+        ensures others { (other : ℕ) → other ≢ start → IsNotedFailed self.new other ↔ IsNotedFailed self.old other }
+        ensures waiting { self.new.waiting ≡ self.old.waiting }
+        ensures reach { self.new.reach ≡ self.old.reach }
+        ensures masks { self.new.masks ≡ self.old.masks }
+        ensures room { self.new.room ≡ self.old.room }
+    {
         remove(self.failed.as_mut_slice(), start as usize);
     }
 
@@ -115,35 +145,28 @@ impl Starts {
         ensures room { self.new.room ≡ self.old.room }
     {
         self.settle(start);
-        self.note_failed(start);
-        self.note_looked(start, looked);
+        self.note_failed(start, looked);
     }
 
-    // the start failed
-    fn note_failed(&mut self, start: u32)
+    // the start failed, and its search looked at this
+    fn note_failed(&mut self, start: u32, looked: Looked)
         requires { start < self.old.room }
         ensures failed { IsNotedFailed self.new start }
-        ensures others { (other : ℕ) → other ≢ start → IsNotedFailed self.new other ↔ IsNotedFailed self.old other }
-        ensures waiting { self.new.waiting ≡ self.old.waiting }
-        ensures reach { self.new.reach ≡ self.old.reach }
-        ensures masks { self.new.masks ≡ self.old.masks }
-        ensures room { self.new.room ≡ self.old.room }
-    {
-        insert(self.failed.as_mut_slice(), start as usize);
-    }
-
-    // its search looked at this
-    fn note_looked(&mut self, start: u32, looked: Looked)
-        requires { start < self.old.room }
         ensures noted { noted self.new start ≡ looked }
+        ensures others { (other : ℕ) → other ≢ start → IsNotedFailed self.new other ↔ IsNotedFailed self.old other }
         ensures reach { (other : ℕ) → other ≢ start → slice_index self.new.reach other ≡ slice_index self.old.reach other }
         ensures masks { (other : ℕ) → other ≢ start → slice_index self.new.masks other ≡ slice_index self.old.masks other }
         ensures waiting { self.new.waiting ≡ self.old.waiting }
-        ensures failed { self.new.failed ≡ self.old.failed }
         ensures room { self.new.room ≡ self.old.room }
     {
-        self.reach[start as usize] = looked.reach;
-        self.masks[start as usize] = looked.mask;
+        note(
+            self.failed.as_mut_slice(),
+            self.reach.as_mut_slice(),
+            self.masks.as_mut_slice(),
+            self.looked.as_mut_slice(),
+            start as usize,
+            looked,
+        );
     }
 
     /// Each start before the end that failed waits if its search looked behind the first one of some places, and at one
@@ -153,45 +176,126 @@ impl Starts {
         ensures wait { AreWoken self.new.waiting self.new.failed self.new.reach self.new.masks first end wires }
         ensures more { WaitMore self.old self.new }
     {
-        self.lowest = 0;
-        wake_words(
+        self.lowest = wake_words(
             self.waiting.as_mut_slice(),
             self.failed.as_slice(),
             self.reach.as_slice(),
             self.masks.as_slice(),
+            self.looked.as_slice(),
             first,
             end,
             wires,
+            self.lowest,
         );
     }
 }
 
-// word by word
-#[tactic(auto, using(crate::proofs::WakingWords::woken_none, crate::proofs::WakingWords::woken_more, crate::proofs::WakingWords::set_keeps, crate::proofs::WakingWords::woken_all))]
+// The start failed, and its search looked at this.
+#[tactic(auto, using(crate::proofs::WakingWords::within_noted))]
+fn note(
+    failed: &mut [u64],
+    reach: &mut [u32],
+    masks: &mut [u64],
+    words: &mut [Looked],
+    start: usize,
+    looked: Looked,
+)
+    requires failed { start / 64 < length failed.old }
+    requires reach { start < length reach.old }
+    requires masks { start < length masks.old }
+    requires words { start / 64 < length words.old }
+    requires within { AreWithin failed.old reach.old masks.old words.old }
+    ensures failed { HasNumber failed.new start }
+    ensures reach { slice_index reach.new start ≡ looked.reach }
+    ensures masks { slice_index masks.new start ≡ looked.mask }
+    ensures other_failed { (other : ℕ) → other ≢ start → HasNumber failed.new other ↔ HasNumber failed.old other }
+    ensures other_reach { (other : ℕ) → other ≢ start → slice_index reach.new other ≡ slice_index reach.old other }
+    ensures other_masks { (other : ℕ) → other ≢ start → slice_index masks.new other ≡ slice_index masks.old other }
+    ensures within { AreWithin failed.new reach.new masks.new words.new }
+{
+    insert(failed, start);
+    reach[start] = looked.reach;
+    masks[start] = looked.mask;
+    words[start / 64] = words[start / 64].and(looked);
+}
+
+// Word by word. Answers a word before which none waits.
+#[tactic(auto, using(crate::proofs::WakingWords::woken_none, crate::proofs::WakingWords::woken_next, crate::proofs::WakingWords::woken_all))]
 fn wake_words(
     waiting: &mut [u64],
     failed: &[u64],
     reach: &[u32],
     masks: &[u64],
+    words: &[Looked],
     first: u32,
     end: u32,
     wires: u64,
-)
+    before: u32,
+) -> u32
     requires few { length waiting.old ≤ 1024 }
     requires failed { length failed.now ≡ length waiting.old }
     requires reach { length reach.now ≡ 64 * length waiting.old }
     requires masks { length masks.now ≡ 64 * length waiting.old }
+    requires words { length words.now ≡ length waiting.old }
+    requires within { AreWithin failed.now reach.now masks.now words.now }
     requires end { end ≤ 64 * length waiting.old }
+    requires none { NoneBefore waiting.old before }
     ensures wait { AreWoken waiting.new failed.now reach.now masks.now first end wires }
     ensures kept { (start : ℕ) → HasNumber waiting.old start → HasNumber waiting.new start }
+    ensures none { NoneBefore waiting.new result }
 {
-    let words = waiting.len().min(end as usize / 64 + 1);
-    for index in 0..words {
-        let woken = waiting[index];
-        let left = failed[index] & !woken;
-        let found = meeting(left, index * 64, reach, masks, first, wires);
-        waiting[index] = woken | found;
+    let count = waiting.len().min(end as usize / 64 + 1);
+    let mut lowest = before;
+    for index in 0..count {
+        lowest = wake_word(
+            waiting, failed, reach, masks, words, index, first, wires, lowest,
+        );
     }
+    lowest
+}
+
+// one word, which is passed over where none of its starts looked behind the first place, or none at the wires
+#[tactic(auto, using(crate::proofs::WakingWords::word_unseen, crate::proofs::WakingWords::word_still, crate::proofs::WakingWords::word_woken, crate::proofs::WakingWords::set_keeps, crate::proofs::WakingWords::none_before_set))]
+fn wake_word(
+    waiting: &mut [u64],
+    failed: &[u64],
+    reach: &[u32],
+    masks: &[u64],
+    words: &[Looked],
+    index: usize,
+    first: u32,
+    wires: u64,
+    before: u32,
+) -> u32
+    requires few { length waiting.old ≤ 1024 }
+    requires index { index < length waiting.old }
+    requires failed { length failed.now ≡ length waiting.old }
+    requires reach { length reach.now ≡ 64 * length waiting.old }
+    requires masks { length masks.now ≡ 64 * length waiting.old }
+    requires words { length words.now ≡ length waiting.old }
+    requires within { AreWithin failed.now reach.now masks.now words.now }
+    requires none { NoneBefore waiting.old before }
+    ensures wait { AreWokenIn waiting.new failed.now reach.now masks.now index first wires }
+    ensures kept { (start : ℕ) → HasNumber waiting.old start → HasNumber waiting.new start }
+    ensures none { NoneBefore waiting.new result }
+{
+    if is_unseen(words[index], first, wires) {
+        return before;
+    }
+    let woken = waiting[index];
+    let found = meeting(
+        failed[index] & !woken,
+        index * 64,
+        reach,
+        masks,
+        first,
+        wires,
+    );
+    if found == 0 {
+        return before;
+    }
+    waiting[index] = woken | found;
+    before.min(index as u32)
 }
 
 // those of a word's numbers that looked behind the first place and at one of the wires; the word's first number is this one
@@ -214,11 +318,18 @@ fn meeting(left: u64, base: usize, reach: &[u32], masks: &[u64], first: u32, wir
     found
 }
 
+// whether what looked at no more than this didn't look behind the first place, or at none of the wires
+fn is_unseen(looked: Looked, first: u32, wires: u64) -> bool
+    ensures { result ≡ true → (looked.reach ≤ first) ⊎ (bit_and looked.mask wires ≡ 0) }
+{
+    (looked.reach <= first) | (looked.mask & wires == 0)
+}
+
 // whether a search looked behind the first place and at one of the wires
 fn is_met(reach: u32, mask: u64, first: u32, wires: u64) -> bool
     ensures { result ≡ false → (reach ≤ first) ⊎ (bit_and mask wires ≡ 0) }
 {
-    reach > first && mask & wires != 0
+    (reach > first) & (mask & wires != 0)
 }
 
 // the word without its bit

@@ -8,7 +8,7 @@ ghost use Rattle.pq_links.specs.Wires.{wire_of};
 ghost use Rattle.pq_match.specs.Redex.{gate_at, last_place};
 ghost use Rattle.pq_match.specs.Waiting.{IsWaiting, WaitMore};
 ghost use Rattle.pq_match.specs.Work.{AreWhole, MarksPlaces, AreTakenAt};
-ghost use Rattle.pq_match.specs.Settled.{AwaitRewriting, AwaitAround, AwaitOn, AwaitBefore, AwaitBetween, AreSameBut, IsUsedAt};
+ghost use Rattle.pq_match.specs.Settled.{AwaitRewriting, AwaitAround, AwaitOn, AwaitBefore, AwaitBetween, AreSameBut, IsUsedAt, IsAwaitedAt};
 
 use crate::looked::Looked;
 use crate::waiting::Starts;
@@ -99,8 +99,37 @@ impl Starts {
         for index in 0..places.len() {
             let gate = slots[places[index] as usize];
             self.wake_on(slots, chains, places, index, gate.first_wire(), last);
-            self.wake_on(slots, chains, places, index, gate.last_wire(), last);
+            self.wake_on_last(slots, chains, places, index, last);
         }
+    }
+
+    // the same on the last wire of the gate at one of the places, where those on its first wire wait already
+    #[tactic(auto, using(crate::proofs::Awaiting::await_same, crate::proofs::Awaiting::more_same))]
+    fn wake_on_last(
+        &mut self,
+        slots: &[Gate],
+        chains: &Chains,
+        places: &[u32],
+        index: usize,
+        last: u32,
+    )
+        requires whole { AreWhole slots.now chains.now }
+        requires rising { AllPairs (λ i j. i < j) places.now }
+        requires inside { All (λ i. i < length slots.now) places.now }
+        requires taken { AreTakenAt slots.now places.now }
+        requires index { index < length places.now }
+        requires first { IsAwaitedAt slots.now places.now self.old index false }
+        requires last { last ≡ last_place places.now }
+        requires end { last < length slots.now }
+        requires room { length slots.now ≤ self.old.room }
+        ensures on { IsAwaitedAt slots.now places.now self.new index true }
+        ensures more { WaitMore self.old self.new }
+    {
+        let gate = slots[places[index] as usize];
+        if gate.first_wire() == gate.last_wire() {
+            return;
+        }
+        self.wake_on(slots, chains, places, index, gate.last_wire(), last);
     }
 
     // the same on one wire of the gate at one of the places, unless an earlier one uses it too

@@ -1,8 +1,11 @@
 //! Sets of small numbers, as words of 64 bits.
 
-ghost use Rattle.std.specs.Prelude.{◌≡◌, ◌≢◌, ℕ, ◌+◌, ◌*◌, ◌/◌, ◌<◌, ◌≤◌, ◌↔◌, length};
+ghost use Rattle.std.specs.Prelude.{◌≡◌, ◌≢◌, ℕ, ◌+◌, ◌*◌, ◌/◌, ◌%◌, ◌<◌, ◌≤◌, ◌↔◌, length};
 ghost use Rattle.std.specs.Int.{bit_at};
-ghost use Rattle.pq_match.specs.Waiting.{HasNumber, AreOnes};
+ghost use Rattle.pq_match.specs.Waiting.{HasNumber, AreOnes, HasEvens};
+
+// the even numbers below 64
+const EVENS: u64 = 6_148_914_691_236_517_205;
 
 /// Puts a number into the set.
 #[tactic(auto, using(crate::proofs::NumberSets::inserted_has, crate::proofs::NumberSets::inserted_others))]
@@ -61,6 +64,25 @@ pub fn fill_below(words: &mut [u64], end: usize)
     for index in 0..words.len() {
         words[index] = ones_below(end, index * 64);
     }
+}
+
+/// Leaves at least the even numbers below this one.
+#[tactic(auto, using(crate::proofs::NumberSets::evens_filled))]
+pub fn fill_evens_below(words: &mut [u64], end: usize)
+    requires { length words.old ≤ 1024 }
+    ensures { (number : ℕ) → number / 64 < length words.new → number < end → number % 2 ≡ 0 → HasNumber words.new number }
+{
+    for index in 0..words.len() {
+        words[index] = evens_below(end, index * 64);
+    }
+}
+
+// the even numbers of one word that are below the end, where the word's first number is this one
+#[tactic(auto, using(crate::proofs::NumberSets::evens_of))]
+fn evens_below(end: usize, first: usize) -> u64
+    ensures { HasEvens end first result }
+{
+    ones_below(end, first) & EVENS
 }
 
 // the numbers of one word that are below the end, where the word's first number is this one

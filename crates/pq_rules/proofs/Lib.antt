@@ -5,6 +5,7 @@ mod KindLaws
 pub mod LiftLaws
 mod PairLaws
 pub mod SeenLaws
+mod SightLaws
 mod SearchLaws
 mod StateLaws
 mod TableLaws

@@ -9,5 +9,6 @@ pub mod Renaming
 pub mod Row
 pub mod Seen
 pub mod Shapes
+pub mod Sights
 pub mod States
 pub mod Table

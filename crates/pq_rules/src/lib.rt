@@ -10,9 +10,11 @@ mod near_misses;
 mod row;
 mod rules;
 mod seen;
+mod sight;
 mod table;
 
 pub use check::check_row;
 pub use row::{RawRow, Row, RowFault};
 pub use rules::{BUILTIN_ROWS, MAX_ROWS, Rules};
-pub use seen::{Seen, role_of};
+pub use seen::Seen;
+pub use sight::{Sight, kind_number};

@@ -1,4 +1,4 @@
-ghost use Rattle.std.specs.Prelude.{◌≡◌, ℕ, ◌+◌, ◌<◌, ◌≤◌, ◌++◌, [], ◌∷◌, All, cond, length, map, IfOk, IfSome, slice_index_or, vec_len};
+ghost use Rattle.std.specs.Prelude.{◌≡◌, ℕ, ◌+◌, ◌<◌, ◌≤◌, ◌++◌, Bool, false, [], ◌∷◌, All, cond, length, map, IfOk, IfSome, slice_index_or, vec_len};
 ghost use Rattle.std.specs.Option.{option_copied};
 ghost use Rattle.pq_gate.specs.Kind.{kind_of, number_of};
 ghost use Rattle.pq_rules.specs.Kinds.{begins, numbers_starting, numbers_where, row_numbered};
@@ -10,6 +10,7 @@ ghost use Rattle.pq_rules.specs.Table.{builtin_rows};
 
 use crate::row::{RawRow, Row};
 use crate::seen::{SEEN, Seen, is_admitted, seen_numbered};
+use crate::sight::{Sight, kind_number};
 use crate::table::{BuiltinRule, builtin_rules};
 use pq_gate::{Gate, GateList, KINDS};
 use pq_limits::MAX_EXTRA_ROWS;
@@ -40,6 +41,9 @@ pub struct Rules {
 
     // by a kind and what is seen next on its last wire: the numbers of the rows that may have a redex there
     admitting: Vec<Vec<u32>>,
+
+    // by the same, whether there is such a row
+    admitted: Vec<bool>,
 }
 
 impl Model for Rules {
@@ -48,7 +52,7 @@ impl Model for Rules {
 
     ghost Value = { List RowView };
 
-    ghost use Rattle.std.specs.Prelude.{◌≡◌, ◌<◌, ◌≤◌, All, slice_index_or, vec_len};
+    ghost use Rattle.std.specs.Prelude.{◌≡◌, ◌<◌, ◌≤◌, Bool, false, [], All, slice_index_or, vec_len};
     ghost use Rattle.pq_gate.specs.declared.kind.TheConstants.{KINDS};
     ghost use Rattle.pq_rules.specs.Kinds.{numbers_starting, numbers_where};
     ghost use Rattle.pq_rules.specs.Seen.{is_admitting, entry_of};
@@ -63,7 +67,9 @@ impl Model for Rules {
         ((k : ℕ) (d : _) → k < KINDS → (slice_index_or a.starting.items k d).items ≡ numbers_starting k 1 a.rows.items) ×
         (vec_len a.admitting ≡ ENTRIES) ×
         ((k : ℕ) (near far : Seen) (d : _) → k < KINDS →
-        (slice_index_or a.admitting.items (entry_of k near far) d).items ≡ numbers_where (is_admitting k near far) 1 a.rows.items) };
+        (slice_index_or a.admitting.items (entry_of k near far) d).items ≡ numbers_where (is_admitting k near far) 1 a.rows.items) ×
+        (vec_len a.admitted ≡ ENTRIES) ×
+        ((entry : ℕ) (d : _) (e : Bool) → entry < ENTRIES → slice_index_or a.admitted.items entry e ≡ false → (slice_index_or a.admitting.items entry d).items ≡ []) };
 }
 
 impl Rules {
@@ -87,6 +93,7 @@ impl Rules {
             mut rows,
             starting: _,
             admitting: _,
+            admitted: _,
         } = self;
         let mut extra = extra;
         rows.append(&mut extra)?;
@@ -100,11 +107,13 @@ impl Rules {
     {
         let starting = index_of(alloc, rows.as_slice())?;
         let admitting = table_of(alloc, rows.as_slice())?;
+        let admitted = noted(alloc, admitting.as_slice())?;
         rows_are_sound(rows.as_slice());
         Ok(Rules {
             rows,
             starting,
             admitting,
+            admitted,
         })
     }
 
@@ -145,13 +154,17 @@ impl Rules {
 impl Rules {
     /// The numbers, ascending, of the rows whose first gate is of this gate's kind, and which may have a redex there where
     /// these two are seen next on the gate's last wire.
-    pub fn rows_admitting(&self, gate: Gate, near: Seen, far: Seen) -> &[u32]
+    pub fn rows_admitting(&self, gate: Gate, near: Sight, far: Sight) -> &[u32]
         ensures numbers { result.now ≡ numbers_where (is_admitting (number_of (kind_of gate)) near far) 1 self.now }
         ensures sound { All IsSound self.now }
     {
-        let kind = gate.kind().number() as usize;
+        let kind = kind_number(gate) as usize;
         let entry = (kind * WIDTH + near.number() as usize) * WIDTH + far.number() as usize;
-        self.admitting[entry].as_slice()
+        let numbers = &self.admitting[entry];
+        if !self.admitted[entry] {
+            return &[];
+        }
+        numbers.as_slice()
     }
 }
 
@@ -259,6 +272,20 @@ fn table_of(alloc: Global, rows: &[Row]) -> Result<Vec<Vec<u32>>, OutOfMemory>
         table.push_reserved(numbers_admitting(alloc, rows, of_kind, near, far)?);
     }
     Ok(table)
+}
+
+// for each entry, whether it has a number
+fn noted(alloc: Global, table: &[Vec<u32>]) -> Result<Vec<bool>, OutOfMemory>
+    requires { length table.now ≡ ENTRIES }
+    ensures len { IfOk result (λ noted. vec_len noted ≡ ENTRIES) }
+    ensures none { IfOk result (λ noted. (entry : ℕ) (d : _) (e : Bool) → entry < ENTRIES → slice_index_or noted.items entry e ≡ false →
+        (slice_index_or table.now entry d).items ≡ []) }
+{
+    let mut noted = Vec::with_capacity(alloc, ENTRIES)?;
+    for entry in 0..ENTRIES {
+        noted.push_reserved(!table[entry].is_empty());
+    }
+    Ok(noted)
 }
 
 // the rows of rules of the table

@@ -21,20 +21,6 @@ pub enum Seen {
 /// How many numbers there are for what is seen.
 pub const SEEN: u8 = ROLES + 2;
 
-impl Seen {
-    /// A number below `SEEN`, of each another one.
-    pub fn number(self) -> u8
-        ensures is { result ≡ seen_number self }
-        ensures below { result < SEEN }
-    {
-        match self {
-            Seen::Nothing => ROLES,
-            Seen::Unclear => ROLES + 1,
-            Seen::Plays(role) => role.number(),
-        }
-    }
-}
-
 /// What is seen, by its number.
 pub fn seen_numbered(number: u8) -> Seen
     requires { number < SEEN }
@@ -50,7 +36,7 @@ pub fn seen_numbered(number: u8) -> Seen
 }
 
 /// The role that a gate plays on a wire that it uses.
-pub fn role_of(gate: Gate, wire: u32) -> Role
+pub(crate) fn role_of(gate: Gate, wire: u32) -> Role
     ensures { result ≡ role_on wire gate }
 {
     match gate.ports() {
