@@ -78,12 +78,21 @@ pub fn gaps_of(alloc: Global, array: &GateArray, fingers: &Fingers) -> Result<Ve
     ranks_of(alloc, array, fingers.places())
 }
 
-/// The ranks of places.
+/// The ranks of places that rise, each counted on from the one before.
 fn ranks_of(alloc: Global, array: &GateArray, places: &[u64]) -> Result<Vec<u64>, OutOfMemory>
-    requires { All (λ place. place ≤ length array.now) places.now }
+    requires inside { All (λ place. place ≤ length array.now) places.now }
+    requires rising { IsStrictlyIncreasing places.now }
     ensures { IfOk result (λ ranks. ranks.items ≡ map (rank array.now) places.now) }
 {
-    places.iter().map(|place| array.rank(*place)).collect(alloc)
+    let mut ranks = Vec::with_capacity(alloc, places.len())?;
+    let mut earlier = 0;
+    let mut before = 0;
+    for place in places {
+        before = array.rank_from(earlier, before, *place);
+        earlier = *place;
+        ranks.push_reserved(before);
+    }
+    Ok(ranks)
 }
 
 /// The gaps with these indexes.
@@ -167,7 +176,7 @@ fn live_from(array: &GateArray, place: u64) -> u64
     ensures rank { rank array.now result ≡ rank array.now place }
     ensures after { place ≤ result }
 {
-    if array.gate_at(place).is_some() {
+    if array.is_live(place) {
         return place;
     }
     array.next_live(place).unwrap()
