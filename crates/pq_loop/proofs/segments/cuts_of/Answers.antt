@@ -1,4 +1,4 @@
-use Rattle.std.proofs.Common.{arith, ◌≡◌, ◌++◌, length, take, drop, set, get_or, ap, ◌∙◌, Bool, List}
+use Rattle.std.proofs.Common.{arith, ◌≡◌, ◌++◌, take, drop, set, get_or, ap, ◌∙◌, List}
 use Rattle.pq_finger.specs.declared.cut.Cut.{Cut}
 use Rattle.pq_oracle.specs.Outcomes.{WorkedView}
 use Rattle.pq_loop.specs.Segments.{flagged, told}

@@ -1,4 +1,4 @@
-use Rattle.std.proofs.Common.{◌≡◌, ℕ, ◌<◌, ◌≤◌, length, map, take, get_or, vec_capacity}
+use Rattle.std.proofs.Common.{◌≡◌, ◌<◌, ◌≤◌, length, map, take, get_or, vec_capacity}
 use Rattle.pq_array.specs.Cells.{rank}
 use Rattle.pq_loop.proofs.segments.ranks_of.Given as goal
 
