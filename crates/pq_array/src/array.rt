@@ -116,9 +116,10 @@ impl GateArray {
         if place - earlier > NEAR {
             return self.rank(place);
         }
+        let cells = &self.cells.as_slice()[earlier as usize..place as usize];
         let mut rank = before;
-        for at in earlier..place {
-            rank += u64::from(self.is_live(at));
+        for cell in cells {
+            rank += u64::from(cell.is_live());
         }
         rank
     }
