@@ -1,5 +1,7 @@
-use Rattle.std.proofs.Common.{◌≡◌, ℕ, zero, suc, ◌+◌, ◌<◌, ◌≤◌, ◌⊎◌, inl, inr, Option, Some, None, List, [], ◌∷◌, ◌++◌, map, length, take, drop, set, get_or, slice_get, refl, ap, sym, ◌∙◌, arith}
-use Rattle.std.proofs.lemmas.List.{take_all}
+use Rattle.std.proofs.Common.{◌≡◌, ℕ, Bool, true, false, zero, suc, ◌+◌, ◌-◌, ◌<◌, ◌≤◌, ◌⊎◌, inl, inr, cond, Option, Some, None, List, [], ◌∷◌, ◌++◌, map, length, take, drop, set, get_or, slice_get, min, length-drop, refl, ap, sym, ◌∙◌, arith}
+use Rattle.std.specs.Prelude.{is_some}
+use Rattle.std.proofs.lemmas.List.{take_all, length-take, get_or-take, get_or-drop, get_or_default}
+use mir.Val.{bool_byte}
 use Rattle.pq_array.specs.Cells.{live, IsLive, rank}
 
 -- a cell is live or not
@@ -36,6 +38,39 @@ rank-suc_dead (None ∷ cells) zero dead = refl
 rank-suc_dead (Some gate ∷ cells) zero dead = absurd (dead refl)
 rank-suc_dead (None ∷ cells) (suc place) dead = rank-suc_dead cells place dead
 rank-suc_dead (Some gate ∷ cells) (suc place) dead = omega (arith, rank-suc_dead cells place dead)
+
+-- a byte that says yes is 1
+pub byte : (b : Bool) → bool_byte b ≡ cond b 1 0
+byte true = refl
+byte false = refl
+
+-- so it is counted on by one cell
+pub rank_on : {A : Type 0} (cells : List (Option A)) (place step : ℕ) → step ≡ cond (is_some (get_or cells place None)) 1 0 →
+    rank cells (place + 1) ≡ rank cells place + step
+rank_on {A} cells place step step_is = by (get_or cells place None) refl
+  where
+    gone : (cell : Option A) → cell ≡ None → is_some cell ≡ true → ⊥
+    gone cell is here = absurd (cc)
+
+    next : rank cells (place + 1) ≡ rank cells (suc place)
+    next = ap (λ (n : ℕ). rank cells n) {x = place + 1} {y = suc place} (omega arith)
+
+    by : (cell : Option A) → get_or cells place None ≡ cell → rank cells (place + 1) ≡ rank cells place + step
+    by (Some gate) is = omega (arith, next, rank-suc_live cells place (ap is_some is), step_is ∙ ap (λ (o : Option A). cond (is_some o) 1 0) is)
+    by None is = omega (arith, next, rank-suc_dead cells place (gone (get_or cells place None) is), step_is ∙ ap (λ (o : Option A). cond (is_some o) 1 0) is)
+
+-- and so by one cell of a part
+pub rank_on_part : {A : Type 0} (cells part : List (Option A)) (from to index : ℕ) (d : Option A) (step : ℕ) → part ≡ take (to - from) (drop from cells) → to ≤ length cells → index < length part →
+    step ≡ cond (is_some (get_or part index d)) 1 0 → rank cells (from + (index + 1)) ≡ rank cells (from + index) + step
+rank_on_part {A} cells part from to index d step part_is inside lt step_is =
+    let long : length part ≡ min (to - from) (length (drop from cells)) = ap (λ (l : List (Option A)). length l) part_is ∙ length-take (to - from) (drop from cells) in
+    let rest : length (drop from cells) ≡ length cells - from = length-drop from cells in
+    let at : get_or part index d ≡ get_or cells (from + index) None =
+    ap (λ (l : List (Option A)). get_or l index d) part_is
+    ∙ (get_or-take (to - from) (drop from cells) index d (omega arith)
+    ∙ (get_or-drop from cells index d ∙ get_or_default cells (from + index) d None (omega arith))) in
+    let next : rank cells (from + (index + 1)) ≡ rank cells (from + index + 1) = ap (λ (n : ℕ). rank cells n) {x = from + (index + 1)} {y = from + index + 1} (omega arith) in
+    next ∙ rank_on cells (from + index) step (step_is ∙ ap (λ (o : Option A). cond (is_some o) 1 0) at)
 
 -- the rank doesn't fall
 pub rank-le : {A : Type 0} (cells : List (Option A)) (p q : ℕ) → p ≤ q → rank cells p ≤ rank cells q

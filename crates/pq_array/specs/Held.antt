@@ -1,10 +1,14 @@
 -- What a cell holds.
-use Rattle.std.specs.Prelude.{ℕ, Option, Some, None}
-use Rattle.pq_gate.specs.Kind.{gate_on}
+use Rattle.std.specs.Prelude.{Option, Some, None}
 use Rattle.pq_gate.specs.declared.gate.Gate.{Gate}
-use Rattle.pq_gate.specs.declared.kind.Kind.{Kind}
+use Rattle.pq_gate.specs.declared.gate.Gate.TheVariants.{H, X, Phase, Cx}
+use Rattle.pq_array.specs.declared.cell.Content.{Content}
+use Rattle.pq_array.specs.declared.cell.Content.TheVariants as content
 
--- the gate of this kind on these wires; a tombstone has no kind
-abbrev pub held : Option Kind → ℕ → ℕ → Option Gate
-held None first last = None
-held (Some kind) first last = Some (gate_on kind first last)
+-- the gate of this content; a tombstone has none
+abbrev pub held : Content → Option Gate
+held (content.H wire) = Some (H wire)
+held (content.X wire) = Some (X wire)
+held (content.Phase eighths wire) = Some (Phase eighths wire)
+held (content.Cx control target) = Some (Cx control target)
+held content.Nothing = None

@@ -1,4 +1,4 @@
-ghost use Rattle.std.specs.Prelude.{◌≡◌, ℕ, ◌↔◌, ◌+◌, ◌<◌, ◌≤◌, Some, None, length, map, slice_index, slice_index_or, slice_get, IsNone, IfOk, IfSome, All};
+ghost use Rattle.std.specs.Prelude.{◌≡◌, ℕ, ◌↔◌, ◌+◌, ◌<◌, ◌≤◌, Some, None, length, map, slice_index, slice_index_or, slice_get, is_some, IsNone, IfOk, IfSome, All};
 ghost use Rattle.pq_array.specs.Cells.{live, rank, spliced, IsLive, IsLiveRun, Replaces};
 ghost use Rattle.pq_array.specs.Tree.{IsTreeOf};
 
@@ -12,7 +12,7 @@ use pq_list::{OutOfMemory, crosses_threads};
 use std::alloc::Global;
 use std::marker::Model;
 
-/// How many cells are looked at one after another for the next live one, before the tree is asked.
+/// How many cells are looked at one after another, for the next live one or for a rank, before the tree is asked.
 const NEAR: u64 = 256;
 
 /// Cells that each hold a gate, or are a tombstone where a gate was taken out. Contracts see the list
@@ -72,6 +72,13 @@ impl GateArray {
         self.cells.gate_at(place)
     }
 
+    /// Whether there is a gate at this place.
+    pub fn is_live(&self, place: u64) -> bool
+        ensures { result ≡ is_some (slice_index_or self.now place None) }
+    {
+        self.cells.is_live(place)
+    }
+
     /// The number of live cells before this place.
     pub fn rank(&self, place: u64) -> u64
         requires { place ≤ length self.now }
@@ -97,6 +104,24 @@ impl GateArray {
             half /= 2;
         }
         before
+    }
+
+    /// The number of live cells before this place, counted on from an earlier place, before which there are so many.
+    pub fn rank_from(&self, earlier: u64, before: u64, place: u64) -> u64
+        requires order { earlier ≤ place }
+        requires inside { place ≤ length self.now }
+        requires before { before ≡ rank self.now earlier }
+        ensures { result ≡ rank self.now place }
+    {
+        if place - earlier > NEAR {
+            return self.rank(place);
+        }
+        let cells = &self.cells.as_slice()[earlier as usize..place as usize];
+        let mut rank = before;
+        for cell in cells {
+            rank += u64::from(cell.is_live());
+        }
+        rank
     }
 
     /// The place of the live gate with this number, counted from 0.
@@ -136,7 +161,7 @@ impl GateArray {
     {
         let near = self.cells().min(place.saturating_add(NEAR));
         for next in place..near {
-            if self.gate_at(next).is_some() {
+            if self.is_live(next) {
                 return Some(next);
             }
         }
@@ -172,7 +197,7 @@ impl GateArray {
         let mut left = count;
         'cells: while left > 0 {
             at -= 1;
-            left -= u64::from(self.gate_at(at).is_some());
+            left -= u64::from(self.is_live(at));
         }
         at
     }

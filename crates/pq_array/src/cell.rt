@@ -1,17 +1,22 @@
 ghost use Rattle.std.specs.Prelude.{◌≡◌, Some, None, is_some};
 
-use pq_gate::{Gate, Kind};
+use pq_gate::{Eighths, Gate};
 use std::marker::Model;
+
+/// What a cell holds: a gate of one of the four forms, or none.
+#[derive(Clone, Copy)]
+enum Content {
+    H { wire: u32 },
+    X { wire: u32 },
+    Phase { eighths: Eighths, wire: u32 },
+    Cx { control: u32, target: u32 },
+    Nothing,
+}
 
 /// A cell: it holds a gate, or is a tombstone where a gate was taken out. It takes 12 bytes, and an `Option<Gate>` 16.
 #[derive(Drop)]
 pub struct Cell {
-    // what the gate is, but for its wires
-    kind: Option<Kind>,
-
-    // its first and its last wire
-    first: u32,
-    last: u32,
+    content: Content,
 }
 
 impl Model for Cell {
@@ -21,36 +26,45 @@ impl Model for Cell {
 
     ghost Value = { Option Gate };
 
-    ghost view = { λ a. held a.kind a.first a.last };
+    ghost view = { λ a. held a.content };
 }
 
 impl Cell {
     /// A cell that holds this gate, or is a tombstone.
-    #[tactic(auto, using(pq_gate::proofs::KindLaws::kind_on_wires))]
     pub fn of(gate: Option<Gate>) -> Cell
         ensures { result ≡ gate }
     {
         match gate {
-            Some(gate) => Cell {
-                kind: Some(gate.kind()),
-                first: gate.first_wire(),
-                last: gate.last_wire(),
-            },
+            Some(gate) => Cell::holding(gate),
             None => Cell {
-                kind: None,
-                first: 0,
-                last: 0,
+                content: Content::Nothing,
             },
         }
+    }
+
+    /// A cell that holds this gate.
+    fn holding(gate: Gate) -> Cell
+        ensures { result ≡ Some gate }
+    {
+        let content = match gate {
+            Gate::H { wire } => Content::H { wire },
+            Gate::X { wire } => Content::X { wire },
+            Gate::Phase { eighths, wire } => Content::Phase { eighths, wire },
+            Gate::Cx { control, target } => Content::Cx { control, target },
+        };
+        Cell { content }
     }
 
     /// The gate that it holds.
     pub fn gate(&self) -> Option<Gate>
         ensures { result ≡ self.now }
     {
-        match self.kind {
-            Some(kind) => Some(kind.on(self.first, self.last)),
-            None => None,
+        match self.content {
+            Content::H { wire } => Some(Gate::H { wire }),
+            Content::X { wire } => Some(Gate::X { wire }),
+            Content::Phase { eighths, wire } => Some(Gate::Phase { eighths, wire }),
+            Content::Cx { control, target } => Some(Gate::Cx { control, target }),
+            Content::Nothing => None,
         }
     }
 
@@ -58,6 +72,9 @@ impl Cell {
     pub fn is_live(&self) -> bool
         ensures { result ≡ is_some self.now }
     {
-        self.kind.is_some()
+        match self.content {
+            Content::Nothing => false,
+            _ => true,
+        }
     }
 }

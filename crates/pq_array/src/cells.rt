@@ -1,4 +1,4 @@
-ghost use Rattle.std.specs.Prelude.{◌≡◌, ℕ, ◌+◌, ◌<◌, ◌≤◌, Some, None, length, map, slice_index, slice_index_or, All};
+ghost use Rattle.std.specs.Prelude.{◌≡◌, ℕ, ◌+◌, ◌<◌, ◌≤◌, Some, None, length, map, slice_index, slice_index_or, is_some, All};
 ghost use Rattle.std.specs.List.Sorted.{IsStrictlyIncreasing};
 ghost use Rattle.pq_array.specs.Cells.{live, rank, spliced, IsLiveRun, Replaces};
 
@@ -54,6 +54,13 @@ impl Cells {
         } else {
             None
         }
+    }
+
+    /// Whether there is a gate at this place.
+    pub(crate) fn is_live(&self, place: u64) -> bool
+        ensures { result ≡ is_some (slice_index_or self.now place None) }
+    {
+        place < self.count() && self.items[place as usize].is_live()
     }
 
     /// Puts the output at the first of these places, in order, and tombstones at the others. The places

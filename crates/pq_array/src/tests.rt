@@ -86,6 +86,8 @@ fn three_of_five_gates_are_replaced_by_one(rt: HostRuntime) -> Result<(), Fail> 
     assert_eq!(rt; array.gate_at(5), None);
     assert_eq!(rt; array.rank(4), 2);
     assert_eq!(rt; array.rank(5), 3);
+    assert_eq!(rt; array.rank_from(0, 0, 4), 2);
+    assert!(rt; array.is_live(1) && !array.is_live(2) && !array.is_live(5));
     assert_eq!(rt; array.select(2), Some(4));
     assert_eq!(rt; array.select(3), None);
     assert_eq!(rt; array.next_live(2), Some(4));

@@ -1,8 +1,7 @@
--- On the way from a leaf to the root, and words that are copied one after another.
-use Rattle.std.proofs.Common.{◌≡◌, ℕ, zero, suc, ◌+◌, ◌-◌, ◌/◌, ◌%◌, ◌^◌, ◌<◌, ◌≤◌, ⊎_elim, List, [], ◌∷◌, ◌++◌, length, set, get_or, refl, sym, ap, ◌∙◌, subst, arith, append_assoc, get_or-set_same, get_or-set_other}
+-- On the way from a leaf to the root.
+use Rattle.std.proofs.Common.{◌≡◌, ℕ, zero, suc, ◌+◌, ◌-◌, ◌/◌, ◌%◌, ◌^◌, ◌<◌, ◌≤◌, List, [], ◌∷◌, ◌++◌, length, get_or, refl, sym, ap, ◌∙◌, subst, arith, append_assoc}
 use Rattle.std.specs.Prelude.{Contains}
 use Rattle.std.specs.List.{concat}
-use Rattle.std.proofs.lemmas.Bool.{cases_eq}
 use Rattle.std.proofs.lemmas.List.{append-nil, map-append}
 use Rattle.std.proofs.lemmas.List.Elements.{All-contains, Contains-append_left, Contains-append_right}
 use Rattle.atomic_table.specs.Table.{Me, Allows}
@@ -109,12 +108,3 @@ pub found_is : (xs : List ℕ) (i x : ℕ) → get_elem? xs i ≡ some x → get
 found_is [] i x at = absurd (some-ne-none x (sym at))
 found_is (y ∷ ys) zero x at = some-injective y x at
 found_is (y ∷ ys) (suc i) x at = found_is ys i x at
-
--- one more number is copied
-pub copied_more : (words items : List ℕ) (i x k : ℕ) → i < length words → get_elem? items i ≡ some x → ((k : ℕ) → k < i → get_or words k 0 ≡ get_or items k 0) →
-    k < i + 1 → get_or (set words i x) k 0 ≡ get_or items k 0
-copied_more words items i x k lt at so_far less =
-    ⊎_elim
-    (λ same. subst (λ (n : ℕ). get_or (set words i x) n 0 ≡ get_or items n 0) (sym same) (get_or-set_same words i x 0 lt ∙ sym (found_is items i x at)))
-    (λ apart. get_or-set_other words i k x 0 apart ∙ so_far k (omega arith))
-    (cases_eq k i)

@@ -27,7 +27,7 @@ weigh_same_at f g [] same = refl
 weigh_same_at f g (x ∷ xs) same = omega (arith, same 0 x refl, weigh_same_at f g xs (λ j. same (suc j)))
 
 -- what stands in a list at least once is there
-contains_times : (x : ℕ) (xs : List ℕ) → 1 ≤ times x xs → Contains xs x
+pub contains_times : (x : ℕ) (xs : List ℕ) → 1 ≤ times x xs → Contains xs x
 contains_times x [] low = absurd (omega arith)
 contains_times x (y ∷ ys) low =
     ⊎_elim (λ same. (0, omega arith, same))

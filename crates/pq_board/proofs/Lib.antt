@@ -8,6 +8,7 @@ pub mod Whole
 pub mod Climbing
 pub mod Leaving
 pub mod Closing
+pub mod Taking
 pub mod Opening
 pub mod StepLaws
 pub mod LeftCells

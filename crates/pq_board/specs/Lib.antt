@@ -7,3 +7,5 @@ pub mod Ways
 pub mod Law
 pub mod Steps
 pub mod Kinds
+-- What private functions promise one another.
+pub mod Changed

@@ -1,10 +1,11 @@
-ghost use Rattle.std.specs.Prelude.{◌≡◌, ℕ, ◌+◌, ◌-◌, ◌/◌, ◌<◌, ◌≤◌, [], ◌∷◌, ◌++◌, length, slice_index, slice_index_or, slice_set, All, Contains, IfOk, IfErr};
+ghost use Rattle.std.specs.Prelude.{◌≡◌, ℕ, ◌+◌, ◌-◌, ◌*◌, ◌/◌, ◌<◌, ◌≤◌, [], ◌∷◌, ◌++◌, length, slice_index, slice_index_or, slice_set, All, Contains, IfOk, IfErr};
 ghost use Rattle.std.specs.List.{concat};
 ghost use Rattle.std.specs.List.Sorted.{IsStrictlyIncreasing};
 ghost use Rattle.pq_limits.specs.Limits.{AreWorkers};
 ghost use Rattle.pq_array.specs.Counts.{Counts};
 ghost use Rattle.pq_board.specs.Sums.{weigh, times};
 ghost use Rattle.pq_board.specs.Ways.{way, live_leaves};
+ghost use Rattle.pq_board.specs.Changed.{FollowUnder, AreTakenUnder};
 ghost use Rattle.pq_board.specs.Law.{IsPlan, leaves, job, nodes_at, stake, late};
 ghost use Rattle.std.specs.Mem.Slots.{slots_items, slots_len, IsFull};
 ghost use Rattle.pq_board.specs.Steps.{BelongsTo, unused, without_rights, with_ticket, with_lowered, with_both, whole_way, lowered_places, Claimed, HoldAll, AreOnce, AreFirst, early, places_under, without};
@@ -337,14 +338,39 @@ fn climb<A: Aim>(table: &Words, seat: &mut Seat<(), View>, ticket: u64, place: u
     }
 }
 
-/// Puts the words of a table that is closed into a list of as many words.
+/// Makes the words with which a table was opened those that it has when it is closed. Only words that changed are
+/// looked at, and those beside them.
 fn put_words(words: &mut WordList, last: &Last)
     requires full { IsFull last.now.words }
     requires size { length words.old.items ≡ slots_len last.now.words }
+    requires some { 1 < length words.old.items }
+    requires pairs { length words.old.items ≡ 2 * (length words.old.items / 2) }
+    requires follow { FollowUnder 1 words.old.items (slots_items last.now.words) }
     ensures items { words.new.items ≡ slots_items last.now.words }
 {
-    for number in 0..words.as_slice().len() {
-        words.put(number as u64, last.word(number));
+    take_changed(words, last, 1);
+    words.put(0, last.word(0));
+}
+
+/// Takes the words of a node of the tree and of those below it from a table that is closed. Where the word of a node is
+/// the same, so are all below it.
+fn take_changed(words: &mut WordList, last: &Last, node: usize)
+    requires full { IsFull last.now.words }
+    requires size { length words.old.items ≡ slots_len last.now.words }
+    requires pairs { length words.old.items ≡ 2 * (length words.old.items / 2) }
+    requires some { 1 ≤ node }
+    requires inside { node < length words.old.items }
+    requires follow { FollowUnder node words.old.items (slots_items last.now.words) }
+    ensures { AreTakenUnder node words.old.items words.new.items (slots_items last.now.words) }
+{
+    let word = last.word(node);
+    if words.as_slice()[node] == word {
+        return;
+    }
+    words.put(node as u64, word);
+    if node < words.as_slice().len() / 2 {
+        take_changed(words, last, 2 * node);
+        take_changed(words, last, 2 * node + 1);
     }
 }
 

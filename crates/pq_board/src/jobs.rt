@@ -1,4 +1,4 @@
-ghost use Rattle.std.specs.Prelude.{◌≡◌, ◌<◌, ◌≤◌, [], ◌∷◌, ◌++◌, length, All, OnOk, OnErr, slice_index, slice_index_or};
+ghost use Rattle.std.specs.Prelude.{◌≡◌, ◌<◌, ◌≤◌, [], ◌∷◌, ◌++◌, length, All, IfOk, OnOk, OnErr, slice_index, slice_index_or};
 ghost use Rattle.std.specs.List.{concat};
 ghost use Rattle.std.specs.List.Sorted.{IsStrictlyIncreasing};
 ghost use Rattle.pq_board.specs.Jobs.{lists_from};
@@ -40,6 +40,15 @@ impl Jobs {
             places: Vec::new(alloc),
             ends: Vec::new(alloc),
         }
+    }
+
+    /// No job, with room for so many jobs and so many places in all. More may be added.
+    pub fn with_room(alloc: Global, jobs: u64, places: u64) -> Result<Jobs, OutOfMemory>
+        ensures { IfOk result (λ made. made ≡ []) }
+    {
+        let places = Vec::with_capacity(alloc, places as usize)?;
+        let ends = Vec::with_capacity(alloc, jobs as usize)?;
+        Ok(Jobs { places, ends })
     }
 
     /// Adds a job behind the others. Where memory is refused, the jobs are as they were.

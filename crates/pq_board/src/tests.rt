@@ -61,7 +61,7 @@ fn pairs(alloc: Global, count: u64) -> Result<Jobs, OutOfMemory>
     ensures each { IfOk result (λ jobs. (ticket : ℕ) → ticket < count → slice_index_or jobs ticket [] ≡ (2 * ticket) ∷ (2 * ticket + 1) ∷ []) }
     ensures below { IfOk result (λ jobs. All (λ place. place < 2 * count) (concat jobs)) }
 {
-    let mut jobs = Jobs::new(alloc);
+    let mut jobs = Jobs::with_room(alloc, count, count)?;
     for ticket in 0..count {
         jobs.add(&[2 * ticket, 2 * ticket + 1])?;
     }

@@ -7,12 +7,12 @@ ghost use Rattle.pq_finger.specs.Settling.{IsBefore};
 pub struct Cut {
     /// The index of the finger.
     pub finger: u64,
-    /// Whether the segment of the finger was improved.
-    pub improved: bool,
     /// The place of the first gate of the segment, or the end where the segment is empty.
     pub from: u64,
     /// The place of the first live gate after the segment, or the end where there is none.
     pub to: u64,
+    /// Whether the segment of the finger was improved.
+    pub improved: bool,
     /// Whether the segment begins at gap 0.
     pub at_start: bool,
     /// Whether the segment ends at the number of live gates.

@@ -60,14 +60,14 @@ pub count_found : {old : List (Option Gate)} {segments : Segments} {rules : List
 count_found {old} {segments} {rules} {results} {list} are same got = ap (λ (l : List WorkedView). length l) same ∙ sym (results_count old segments rules list are got)
 
 -- the same with cuts that are ends with the words of the results
-pub found_told : {old : List (Option Gate)} {places : List ℕ} {segments : Segments} {rules : List RowView} {results list : List WorkedView} {ends ends_now cuts made : List Cut} →
+pub found_told : {old : List (Option Gate)} {places : List ℕ} {segments : Segments} {rules : List RowView} {results list : List WorkedView} {cuts made : List Cut} → (ends : List Cut) →
     All (λ place. IsTrue (stands old place)) places → IsStrictlyIncreasing places → AreSegments old segments → AreOfFingers old places segments →
-    results ≡ list → AreResults old segments.jobs rules list → ends_now ≡ ends → cuts ≡ made → made ≡ told ends_now results →
+    results ≡ list → AreResults old segments.jobs rules list → cuts ≡ made → made ≡ told ends results →
     ((any : List ℕ) (others : List WorkedView) → AreOfFingers old any segments → length others ≡ length segments.gaps.items →
     AllZip (IsAtPlaces (rank old) (stands old) (length (live old)) any) (map cut_of (works_in old segments others)) (told ends others)) →
     IsFound old places segments rules results cuts
-found_told {old} {places} {segments} {rules} {results} {list} {ends} {ends_now} stand rising are of same got ends_is shown made_is at =
-    found_of stand rising are of same got (shown ∙ (made_is ∙ ap (λ (e : List Cut). told e results) ends_is)) (λ any of_any. at any results of_any (count_found are same got))
+found_told {results = results} ends stand rising are of same got shown made_is at =
+    found_of stand rising are of same got (shown ∙ made_is) (λ any of_any. at any results of_any (count_found are same got))
 
 -- the fingers of the cuts of works are those of the works
 cut_fingers : (works : List Work) → map (λ (cut : GapCut). cut.finger) (map cut_of works) ≡ map (λ (work : Work). work.finger) works

@@ -1,9 +1,9 @@
 -- The cuts of a round, one for each result.
-use Rattle.std.proofs.Common.{◌≡◌, ℕ, zero, suc, ◌+◌, ◌<◌, ◌≤◌, ◌⊎◌, inl, inr, Bool, Option, List, [], ◌∷◌, ◌++◌, length, get_or, map, refl, sym, ap, subst, ◌∙◌, arith}
+use Rattle.std.proofs.Common.{◌≡◌, ℕ, zero, suc, ◌+◌, ◌<◌, ◌≤◌, ◌⊎◌, inl, inr, Bool, Option, List, [], ◌∷◌, ◌++◌, length, get_or, set, take, drop, map, refl, sym, ap, subst, ◌∙◌, arith}
 use Rattle.std.specs.Prelude.{All, slice_index}
 use Rattle.std.specs.List.{AllZip}
 use Rattle.std.proofs.lemmas.Bool.{cases_lt}
-use Rattle.std.proofs.lemmas.List.{length_push, get_or_push, get_or_append_left, get_or-map}
+use Rattle.std.proofs.lemmas.List.{append-nil, drop_all, take_all, length_push, get_or_push, get_or_append_left, get_or-map}
 use Rattle.pq_gate.specs.declared.gate.Gate.{Gate}
 use Rattle.pq_array.specs.Cells.{live, rank}
 use Rattle.pq_gaps.specs.Gaps.{GapCut}
@@ -40,13 +40,22 @@ ends_more cells reach fingers gaps number ends cut so_far here =
         rw (get_or_push ends cut d i (omega (arith, so_far.count)))
         (subst (λ (n : ℕ). IsCutOf cells reach (get_or fingers n 0) (get_or gaps n 0) b (flagged b cut)) same (here b))
 
--- the words of results
-pub told_push : (ends : List Cut) (results : List WorkedView) (cut : Cut) (worked : WorkedView) → length ends ≡ length results →
-    told (ends ++ cut ∷ []) (results ++ worked ∷ []) ≡ told ends results ++ flagged worked.answer.improved cut ∷ []
-told_push [] [] cut worked same = refl
-told_push [] (w ∷ ws) cut worked same = absurd (omega arith)
-told_push (e ∷ es) [] cut worked same = absurd (omega arith)
-told_push (e ∷ es) (w ∷ ws) cut worked same = ap (λ (l : List Cut). flagged w.answer.improved e ∷ l) (told_push es ws cut worked (omega (arith, same)))
+-- the word of one more result is told
+pub told_next : (ends : List Cut) (results : List WorkedView) (n : ℕ) (d : Cut) (e : WorkedView) → length ends ≡ length results → n < length ends →
+    set (told (take n ends) (take n results) ++ drop n ends) n (flagged (get_or results n e).answer.improved (get_or (told (take n ends) (take n results) ++ drop n ends) n d))
+    ≡ told (take (n + 1) ends) (take (n + 1) results) ++ drop (n + 1) ends
+told_next [] results n d e same lt = absurd (omega (arith, lt))
+told_next (c ∷ cs) [] n d e same lt = absurd (omega (arith, same))
+told_next (c ∷ cs) (w ∷ ws) zero d e same lt = refl
+told_next (c ∷ cs) (w ∷ ws) (suc n) d e same lt =
+    let step : suc n + 1 ≡ suc (n + 1) = omega arith in
+    rw step (ap (λ (l : List Cut). flagged w.answer.improved c ∷ l) (told_next cs ws n d e (omega (arith, same)) (omega (arith, lt))))
+
+-- and where all are, these are all
+pub told_all : (ends : List Cut) (results : List WorkedView) (n : ℕ) → length ends ≡ length results → length ends ≤ n →
+    told (take n ends) (take n results) ++ drop n ends ≡ told ends results
+told_all ends results n same all =
+    (λ i. told (take_all n ends all i) (take_all n results (omega (arith, same, all)) i) ++ drop_all n ends all i) ∙ append-nil (told ends results)
 
 length_told : (ends : List Cut) (results : List WorkedView) → length ends ≡ length results → length (told ends results) ≡ length results
 length_told [] [] same = refl

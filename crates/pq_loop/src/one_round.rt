@@ -114,7 +114,7 @@ fn work_round<R: Threads + Sync, G: WorkGate>(
         rt, alloc, &cells, words, jobs, rules, omega, workers, gate,
     )?;
     let results = worked.as_slice();
-    let cuts = cuts_of(alloc, ends.as_slice(), results)?;
+    let cuts = cuts_of(ends, results);
     let settled = fingers.settle(alloc, cuts.as_slice())?;
     let segments = Segments {
         omega: reach,

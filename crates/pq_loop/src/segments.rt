@@ -1,4 +1,4 @@
-ghost use Rattle.std.specs.Prelude.{◌≡◌, ◌+◌, ◌*◌, ◌<◌, ◌≤◌, ℕ, Bool, List, All, AllPairs, IfOk, IsTrue, length, map, slice_index, vec_capacity};
+ghost use Rattle.std.specs.Prelude.{◌≡◌, ◌+◌, ◌*◌, ◌<◌, ◌≤◌, ℕ, Bool, List, [], All, AllPairs, IfOk, IsTrue, length, map, slice_index, vec_capacity};
 ghost use Rattle.std.specs.List.Sorted.{IsStrictlyIncreasing};
 ghost use Rattle.std.specs.List.{AllZip};
 ghost use Rattle.pq_array.specs.Cells.{live, rank, IsLive};
@@ -78,12 +78,21 @@ pub fn gaps_of(alloc: Global, array: &GateArray, fingers: &Fingers) -> Result<Ve
     ranks_of(alloc, array, fingers.places())
 }
 
-/// The ranks of places.
+/// The ranks of places that rise, each counted on from the one before.
 fn ranks_of(alloc: Global, array: &GateArray, places: &[u64]) -> Result<Vec<u64>, OutOfMemory>
-    requires { All (λ place. place ≤ length array.now) places.now }
+    requires inside { All (λ place. place ≤ length array.now) places.now }
+    requires rising { IsStrictlyIncreasing places.now }
     ensures { IfOk result (λ ranks. ranks.items ≡ map (rank array.now) places.now) }
 {
-    places.iter().map(|place| array.rank(*place)).collect(alloc)
+    let mut ranks = Vec::with_capacity(alloc, places.len())?;
+    let mut earlier = 0;
+    let mut before = 0;
+    for place in places {
+        before = array.rank_from(earlier, before, *place);
+        earlier = *place;
+        ranks.push_reserved(before);
+    }
+    Ok(ranks)
 }
 
 /// The gaps with these indexes.
@@ -116,7 +125,7 @@ fn jobs_of(
     requires ranks { map (λ index. rank array.now (slice_index places.now index)) indexes.now ≡ gaps.now }
     ensures { IfOk result (λ jobs. AreJobs array.now omega gaps.now jobs) }
 {
-    let mut jobs = Jobs::new(alloc);
+    let mut jobs = room_for(alloc, array, gaps.len() as u64, omega)?;
     let mut list = Vec::with_capacity(alloc, 2 * omega as usize)?;
     for gap in gaps {
         let (from, to) = segment(*gap, array.live(), omega);
@@ -126,6 +135,19 @@ fn jobs_of(
         jobs.add(list.as_slice())?;
     }
     Ok(jobs)
+}
+
+/// No job, with room for those of so many segments.
+fn room_for(
+    alloc: Global,
+    array: &GateArray,
+    segments: u64,
+    omega: u32,
+) -> Result<Jobs, OutOfMemory>
+    ensures { IfOk result (λ jobs. jobs ≡ []) }
+{
+    let most = segments.saturating_mul(2 * u64::from(omega));
+    Jobs::with_room(alloc, segments, most.min(array.live()))
 }
 
 /// The gaps from which and to which the segment of the finger at a gap goes.
@@ -167,7 +189,7 @@ fn live_from(array: &GateArray, place: u64) -> u64
     ensures rank { rank array.now result ≡ rank array.now place }
     ensures after { place ≤ result }
 {
-    if array.gate_at(place).is_some() {
+    if array.is_live(place) {
         return place;
     }
     array.next_live(place).unwrap()
@@ -261,28 +283,14 @@ impl Segments {
     }
 }
 
-/// The cuts, each with the word of its result.
-pub fn cuts_of(alloc: Global, ends: &[Cut], results: &[Worked]) -> Result<Vec<Cut>, OutOfMemory>
-    requires { length ends.now ≡ length results.now }
-    ensures { IfOk result (λ cuts. cuts.items ≡ told ends.now results.now) }
+/// The cuts, each with the word of its result. It takes no memory.
+pub fn cuts_of(ends: Vec<Cut>, results: &[Worked]) -> Vec<Cut>
+    requires { length ends.items ≡ length results.now }
+    ensures { result.items ≡ told ends.items results.now }
 {
-    let mut cuts = Vec::with_capacity(alloc, results.len())?;
-    for (number, worked) in results.iter().enumerate() {
-        cuts.push_reserved(cut_with(&ends[number], worked.improved()));
+    let mut cuts = ends;
+    for number in 0..results.len() {
+        cuts[number].improved = results[number].improved();
     }
-    Ok(cuts)
-}
-
-/// The cut, with this word on whether its segment was improved.
-fn cut_with(cut: &Cut, improved: bool) -> Cut
-    ensures { result ≡ flagged improved cut.now }
-{
-    Cut {
-        finger: cut.finger,
-        improved,
-        from: cut.from,
-        to: cut.to,
-        at_start: cut.at_start,
-        at_end: cut.at_end,
-    }
+    cuts
 }

@@ -68,6 +68,7 @@ pub fn run_round<'r, R: Threads + Sync, G: WorkGate>(
         board: &board,
         rules,
         omega,
+        share: board.job_count() / u64::from(threads) + 1,
         gate,
     };
     match work_by(rt, alloc, &context, &mut pass, threads) {

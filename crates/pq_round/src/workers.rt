@@ -27,6 +27,9 @@ pub struct RoundContext<'s, 'r, G> {
     pub board: &'s Board,
     pub rules: &'r Rules,
     pub omega: u32,
+
+    // for how many results a worker takes room at first
+    pub share: u64,
     pub gate: &'s G,
 }
 
@@ -153,7 +156,7 @@ fn work_alone<'r, G: WorkGate>(
     ensures late { IfOk result (λ list. 1 ≤ late context.now.board.now.plan pass.new.view.tickets) }
 {
     let mut seg = Seg::reserve(alloc, 2 * context.omega)?;
-    let mut results = Vec::new(alloc);
+    let mut results = Vec::with_capacity(alloc, context.share as usize)?;
     'jobs: while work_next(alloc, context, pass, &mut seg, &mut results)? {}
     Ok(results)
 }

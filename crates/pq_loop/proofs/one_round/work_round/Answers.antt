@@ -12,14 +12,12 @@ use Rattle.pq_loop.proofs.Assembling.{found_told, count_found, cuts_in_order, se
 use Rattle.pq_loop.proofs.Rejoining.{tree_after, round_receipt}
 use Rattle.pq_loop.proofs.one_round.work_round.Goals as goal
 
-pub cuts_of-requires : goal.cuts_of-requires
-cuts_of-requires g c =
+pub cuts_of-cuts-requires : goal.cuts_of-cuts-requires
+cuts_of-cuts-requires g c =
     let got = subst (λ (cells : List (Option Gate)). AreResults cells c.in_ok-segments.segments.jobs c.args.rules.now c.in_ok-worked.worked.items) c.split_words-cells.ensures.cells c.in_ok-worked.ensures.results in
     omega (
       arith,
-      c.as_slice.ensures.len,
       c.in_ok-ends.ensures.count,
-      ap (λ (l : List Cut). length l) c.as_slice.ensures.value,
       count_found c.in_ok-segments.ensures.segments c.as_slice-results.ensures got,
     )
 
@@ -27,8 +25,8 @@ pub settle-requires : goal.settle-requires
 settle-requires g c =
     let got = subst (λ (cells : List (Option Gate)). AreResults cells c.in_ok-segments.segments.jobs c.args.rules.now c.in_ok-worked.worked.items) c.split_words-cells.ensures.cells c.in_ok-worked.ensures.results in
     cuts_in_order c.in_ok-segments.ensures.omega (omega (arith, c.requires.omega.least))
-    (found_told c.requires.stand c.places-places.ensures.rising c.in_ok-segments.ensures.segments c.in_ok-segments.ensures.fingers
-    c.as_slice-results.ensures got c.as_slice.ensures.value c.as_slice-2.ensures.value c.in_ok-cuts.ensures c.in_ok-ends.ensures.at_places)
+    (found_told c.in_ok-ends.ends.items c.requires.stand c.places-places.ensures.rising c.in_ok-segments.ensures.segments c.in_ok-segments.ensures.fingers
+    c.as_slice-results.ensures got c.as_slice.ensures.value c.cuts_of-cuts.ensures c.in_ok-ends.ensures.at_places)
 
 pub rejoin-array-requires : goal.rejoin-array-requires
 rejoin-array-requires g c =
@@ -48,8 +46,8 @@ pub moved_on-requires : goal.moved_on-requires
 moved_on-requires g c =
     let got = subst (λ (cells : List (Option Gate)). AreResults cells c.in_ok-segments.segments.jobs c.args.rules.now c.in_ok-worked.worked.items) c.split_words-cells.ensures.cells c.in_ok-worked.ensures.results in
     settled_inside
-    (found_told c.requires.stand c.places-places.ensures.rising c.in_ok-segments.ensures.segments c.in_ok-segments.ensures.fingers
-    c.as_slice-results.ensures got c.as_slice.ensures.value c.as_slice-2.ensures.value c.in_ok-cuts.ensures c.in_ok-ends.ensures.at_places)
+    (found_told c.in_ok-ends.ends.items c.requires.stand c.places-places.ensures.rising c.in_ok-segments.ensures.segments c.in_ok-segments.ensures.fingers
+    c.as_slice-results.ensures got c.as_slice.ensures.value c.cuts_of-cuts.ensures c.in_ok-ends.ensures.at_places)
     c.rejoin-array.result
     (ap (λ (l : List (Option Gate)). length l) c.rejoin-array.ensures ∙ (c.put.ensures.size ∙ ap (λ (l : List (Option Gate)). length l) c.split_words-cells.ensures.cells)) c.in_ok-settled.ensures
 
@@ -59,8 +57,8 @@ returns-clause-round g c =
     let segments = c.in_ok-segments.segments in
     let results = c.as_slice-results.result.now in
     round_is c.in_ok-segments.ensures.omega (omega (arith, c.requires.omega.least))
-    (found_told c.requires.stand c.places-places.ensures.rising c.in_ok-segments.ensures.segments c.in_ok-segments.ensures.fingers
-    c.as_slice-results.ensures got c.as_slice.ensures.value c.as_slice-2.ensures.value c.in_ok-cuts.ensures c.in_ok-ends.ensures.at_places)
+    (found_told c.in_ok-ends.ends.items c.requires.stand c.places-places.ensures.rising c.in_ok-segments.ensures.segments c.in_ok-segments.ensures.fingers
+    c.as_slice-results.ensures got c.as_slice.ensures.value c.cuts_of-cuts.ensures c.in_ok-ends.ensures.at_places)
     (record {
       gates = ap (λ (l : List (Option Gate)). live l) c.rejoin-array.ensures
           ∙ subst (λ (o : List (Option Gate)). live c.put.new.cells ≡ joined (live o) (works_in o segments results)) c.split_words-cells.ensures.cells c.put.ensures.gates;

@@ -5,8 +5,8 @@ use Rattle.pq_array.specs.Cells.{rank}
 use Rattle.pq_loop.proofs.Standing.{standing_inside, ranks_rise}
 use Rattle.pq_loop.proofs.segments.gaps_of.Goals as goal
 
-pub ranks_of-requires : goal.ranks_of-requires
-ranks_of-requires c = rw c.places.ensures.places (λ k d lt. standing_inside c.args.array.now _ (c.requires k d lt))
+pub ranks_of-requires-clause-inside : goal.ranks_of-requires-clause-inside
+ranks_of-requires-clause-inside c = rw c.places.ensures.places (λ k d lt. standing_inside c.args.array.now _ (c.requires k d lt))
 
 pub returns-clause-rising : goal.returns-clause-rising
 returns-clause-rising c =

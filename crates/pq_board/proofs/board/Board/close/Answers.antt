@@ -1,10 +1,10 @@
 use Rattle.std.proofs.Common.{◌≡◌, ℕ, List, ◌+◌, ◌-◌, length, get_or, ap, ◌∙◌, subst, arith}
 use Rattle.std.specs.Mem.Slots.{slots_items}
 use Rattle.pq_board.specs.Law.{leaves, stake, late}
-use Rattle.pq_board.specs.Steps.{AreWhole, early}
+use Rattle.pq_board.specs.Steps.{AreWhole, early, lowered_places}
 use Rattle.pq_board.specs.declared.plan.Plan.{Plan}
 use Rattle.pq_board.specs.declared.plan.View.{View}
-use Rattle.pq_board.proofs.Closing.{Closes, closes}
+use Rattle.pq_board.proofs.Closing.{Closes, closes, closing_follow}
 use Rattle.pq_board.proofs.Whole.{hold_all, early_late}
 use Rattle.pq_board.proofs.board.Board.close.Goals as goal
 use Rattle.pq_board.proofs.board.Board.close.Goals.{After-put_words}
@@ -22,6 +22,17 @@ known c =
     rw c.put_words.ensures.items
     (closes c.self.inside.plan c.self.inside.table.shared.key c.pass.inside.seat.id v (slots_items c.close_with-last.result.words) (slots_items c.close_with-last.result.slots)
     c.self.invariant.0 belongs.plan (all_of c) ways c.close_with-last.ensures.values.2)
+
+pub put_words-requires-clause-follow : goal.put_words-requires-clause-follow
+put_words-requires-clause-follow c =
+    let belongs = rw (← c.self.view_is, ← c.pass.view_is) at c.requires.belongs in
+    let alone = rw (← c.self.view_is, ← c.pass.view_is) at c.requires.alone in
+    let plan : Plan = c.self.inside.plan in
+    let v : View = c.pass.inside.seat.me.0 in
+    let ways : AreWhole (leaves plan) v.lowered = subst (λ (p : Plan). AreWhole (leaves p) v.lowered) belongs.plan c.pass.invariant.2 in
+    closing_follow plan (slots_items c.close_with-last.result.words) (lowered_places v.lowered)
+    (closes plan c.self.inside.table.shared.key c.pass.inside.seat.id v (slots_items c.close_with-last.result.words) (slots_items c.close_with-last.result.slots)
+    c.self.invariant.0 belongs.plan alone ways c.close_with-last.ensures.values.2).counts
 
 -- no more tickets are late than were drawn
 pub receipt_of-receipt-requires-clause-few : goal.receipt_of-receipt-requires-clause-few
