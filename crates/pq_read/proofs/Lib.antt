@@ -10,6 +10,8 @@ pub mod Marks
 pub mod Pieces
 pub mod Splicing
 pub mod Leading
+pub mod Reaching
+pub mod CutWell
 pub mod Beginning
 pub mod Fed
 pub mod Answers

@@ -20,3 +20,4 @@ pub mod Gives
 pub mod Leads
 pub mod Begins
 pub mod Feeding
+pub mod CutWell
