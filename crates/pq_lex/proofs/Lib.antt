@@ -5,6 +5,7 @@ pub mod Added
 pub mod Direct
 pub mod Parts
 pub mod Longest
+pub mod Malformed
 pub mod Values
 pub mod Ending
 pub mod Lines

@@ -329,7 +329,7 @@ no_blank (b ∷ c ∷ rest) h =
       ] refl
     ] refl
 
-blank_newline : (b : ℕ) (rest : List ℕ) → blank_length (b ∷ rest) ≡ 0 → b ≡ 10 → ⊥
+pub blank_newline : (b : ℕ) (rest : List ℕ) → blank_length (b ∷ rest) ≡ 0 → b ≡ 10 → ⊥
 blank_newline b rest none is =
     let one : blank_length (10 ∷ rest) ≡ 0 = ap (λ x. blank_length (x ∷ rest)) (sym is) ∙ none in absurd (omega arith)
 
