@@ -12,6 +12,8 @@ pub mod Splicing
 pub mod Leading
 pub mod Reaching
 pub mod CutWell
+pub mod Short
+pub mod FirstTokens
 pub mod Beginning
 pub mod Fed
 pub mod Answers
