@@ -1,5 +1,5 @@
 -- A statement that is no barrier is known by its first tokens.
-use Rattle.std.proofs.Common.{◌≡◌, ℕ, zero, suc, ◌+◌, ◌*◌, ◌≤◌, Bool, true, false, cond, List, [], ◌∷◌, ◌++◌, length, Option, Some, None, Result, Ok, Err, codes, bytes_eq, nat_lt, refl, sym, ap, ◌∙◌, arith}
+use Rattle.std.proofs.Common.{◌≡◌, ℕ, zero, suc, ◌+◌, ◌*◌, ◌≤◌, Bool, true, false, ◌&&◌, cond, List, [], ◌∷◌, ◌++◌, length, Option, Some, None, Result, Ok, Err, codes, bytes_eq, nat_lt, refl, sym, ap, ◌∙◌, arith}
 use Rattle.std.specs.List.{list_any}
 use Rattle.std.proofs.lemmas.Bool.{false≢true}
 use Rattle.pq_lex.specs.declared.token.Form.TheVariants.{Word, Number, Quoted, Semicolon, Comma, LeftBracket, RightBracket, Arrow, Malformed}
@@ -170,17 +170,17 @@ first_no_barrier included word h = by (gate_named included word) where
   by (Some g) = refl
   by None = other_no_barrier word h
 
--- A statement whose first token isn't the word `barrier` is read or refused by its first 16 tokens.
-pub piece_same : (options : Options) (E : Env) (t : TokenView) (ts more : List TokenView) → 16 ≤ length (t ∷ ts) → bytes_eq (codes "barrier") t.bytes ≡ false
+-- A statement whose first token isn't the word `barrier`, or the header, is read or refused by its first 16 tokens.
+pub piece_same : (options : Options) (E : Env) (t : TokenView) (ts more : List TokenView) → 16 ≤ length (t ∷ ts) → (E.header && bytes_eq (codes "barrier") t.bytes) ≡ false
     → piece_at options E ((t ∷ ts) ++ more) ≡ followed more (piece_at options E (t ∷ ts))
 unfolding piece_at statement_at
 piece_same options E t ts more many other =
-    let first : FirstWord = first_word E.included t.bytes in
-    let named = by_short first options E t (first_no_barrier E.included t.bytes other) in
-    let opened = put_short 3 15 header_at (λ _. record { header = true; included = E.included; program = E.program }) (omega arith) header_short in
-    either_same E.header more (statement_at options E (t ∷ ts)) _ (statement_at options E (t ∷ (ts ++ more))) _
-    (by (is_form Word t) (named.same ts more (omega arith)))
-    (opened.same (t ∷ ts) more (omega arith))
+    elim E.header as (λ h. (h && bytes_eq (codes "barrier") t.bytes) ≡ false
+    → (let r : List TokenView → Reading Env = λ l. cond h (statement_at options E l) (put (header_at l) (λ _. record { header = true; included = E.included; program = E.program })) in
+    r (t ∷ (ts ++ more)) ≡ followed more (r (t ∷ ts)))) [
+      | true ↦ λ other. by (is_form Word t) ((by_short (first_word E.included t.bytes) options E t (first_no_barrier E.included t.bytes other)).same ts more (omega arith))
+      | false ↦ λ _. (put_short 3 15 header_at (λ _. record { header = true; included = E.included; program = E.program }) (omega arith) header_short).same (t ∷ ts) more (omega arith)
+    ] other
   where
     by : (b : Bool) → (let first : FirstWord = first_word E.included t.bytes in statement_by first options E t (ts ++ more) ≡ followed more (statement_by first options E t ts))
         → (let r : List TokenView → Reading TokenView = λ l. cond b (Ok (t, l)) (Err (unexpected t)) in

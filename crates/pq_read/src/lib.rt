@@ -9,6 +9,7 @@ mod declaration;
 mod draft;
 mod gate;
 mod header;
+mod known;
 mod laws;
 mod name;
 mod program;

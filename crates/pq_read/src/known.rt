@@ -1,0 +1,72 @@
+ghost use Rattle.std.specs.Prelude.{◌≡◌, ◌+◌, ◌^◌, ◌<◌, ◌≤◌, ◌&&◌, true, length, codes, bytes_eq};
+ghost use Rattle.pq_lex.specs.Lex.{tokens};
+ghost use Rattle.pq_read.specs.declared.program.Options.{Options};
+ghost use Rattle.pq_read.specs.Begins.{position_of};
+ghost use Rattle.pq_read.specs.Drafts.{env_of};
+ghost use Rattle.pq_read.specs.Leads.{HasFault, FailsAt};
+
+use crate::begun::Begun;
+use crate::draft::Draft;
+use crate::program::Options;
+use crate::refusal::ReadError;
+use crate::statements::read_pieces;
+use crate::token::has_form;
+use crate::word::is_text;
+use pq_lex::{Form, Lexer, Token};
+use pq_limits::MAX_GATES;
+use std::alloc::Global;
+
+// A statement that is no barrier is read or refused by so many tokens.
+const ENOUGH: u32 = 16;
+
+// Whether a statement begins a barrier by its first token.
+fn begins_barrier(draft: &Draft, first: &Token) -> bool
+    ensures { result ≡ (draft.now.header && bytes_eq (codes "barrier") first.now.bytes.now) }
+{
+    draft.header && is_text(b"barrier", first.bytes)
+}
+
+/// Whether what is begun is refused whatever follows it: its tokens end with a malformed one, or they are more than a
+/// statement has that is no barrier.
+pub fn has_known_fault(draft: &Draft, begun: &Begun) -> bool
+    requires column { 1 ≤ begun.now.column }
+    requires fits { begun.now.line + (begun.now.column + length begun.now.bytes.items) < 2 ^ 32 }
+    ensures { result ≡ true → (options : Options) → HasFault options (env_of draft.now) (position_of begun.now) }
+{
+    let mut lexer = Lexer::at(begun.bytes.as_slice(), begun.line, begun.column);
+    let Some(first) = lexer.sure() else {
+        return lexer.is_malformed();
+    };
+    if has_form(&first, Form::Semicolon) {
+        return false;
+    }
+    let long = begins_barrier(draft, &first);
+    let mut count: u32 = 1;
+    'tokens: loop {
+        if !long && count >= ENOUGH {
+            return true;
+        }
+        let Some(token) = lexer.sure() else {
+            return lexer.is_malformed();
+        };
+        if has_form(&token, Form::Semicolon) {
+            return false;
+        }
+        count = count.saturating_add(1);
+    }
+}
+
+/// The fault of what is begun, which is known whatever follows.
+pub fn known_fault(alloc: Global, draft: &mut Draft, begun: &Begun, options: Options) -> ReadError
+    requires gates { length draft.old.gates.items ≤ MAX_GATES }
+    requires column { 1 ≤ begun.now.column }
+    requires fits { begun.now.line + (begun.now.column + length begun.now.bytes.items) < 2 ^ 32 }
+    requires known { HasFault options (env_of draft.old) (position_of begun.now) }
+    ensures { FailsAt options (env_of draft.old) (position_of begun.now) result }
+{
+    let mut lexer = Lexer::at(begun.bytes.as_slice(), begun.line, begun.column);
+    match read_pieces(alloc, draft, &mut lexer, options) {
+        Err(error) => error,
+        Ok(()) => unreachable!(),
+    }
+}
