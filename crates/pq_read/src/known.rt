@@ -57,6 +57,7 @@ pub fn has_known_fault(draft: &Draft, begun: &Begun) -> bool
 }
 
 /// The fault of what is begun, which is known whatever follows.
+#[tactic(auto, using(crate::proofs::Walked::known_fails, crate::proofs::Walked::known_never))]
 pub fn known_fault(alloc: Global, draft: &mut Draft, begun: &Begun, options: Options) -> ReadError
     requires gates { length draft.old.gates.items ≤ MAX_GATES }
     requires column { 1 ≤ begun.now.column }
@@ -64,8 +65,8 @@ pub fn known_fault(alloc: Global, draft: &mut Draft, begun: &Begun, options: Opt
     requires known { HasFault options (env_of draft.old) (position_of begun.now) }
     ensures { FailsAt options (env_of draft.old) (position_of begun.now) result }
 {
-    let mut lexer = Lexer::at(begun.bytes.as_slice(), begun.line, begun.column);
-    match read_pieces(alloc, draft, &mut lexer, options) {
+    let mut rest = Lexer::at(begun.bytes.as_slice(), begun.line, begun.column);
+    match read_pieces(alloc, draft, &mut rest, options) {
         Err(error) => error,
         Ok(()) => unreachable!(),
     }
