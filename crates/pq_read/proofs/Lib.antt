@@ -20,4 +20,5 @@ pub mod Fed
 pub mod Answers
 pub mod Circuits
 pub mod Formed
+pub mod GateMatrices
 pub mod Kept

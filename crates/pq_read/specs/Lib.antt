@@ -21,3 +21,4 @@ pub mod Leads
 pub mod Begins
 pub mod Feeding
 pub mod CutWell
+pub mod GateMatrices
