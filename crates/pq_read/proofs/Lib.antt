@@ -14,6 +14,7 @@ pub mod Reaching
 pub mod CutWell
 pub mod Short
 pub mod FirstTokens
+pub mod Straying
 pub mod Walked
 pub mod Beginning
 pub mod Fed

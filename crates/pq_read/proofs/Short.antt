@@ -72,7 +72,7 @@ pub either_leaves : {A : Type 0} (n : ℕ) (b : Bool) (ts : List TokenView) (x y
 either_leaves n true ts x y p q = p
 either_leaves n false ts x y p q = q
 
-head_same : (ts more : List TokenView) → 1 ≤ length ts → head (ts ++ more) ≡ head ts
+pub head_same : (ts more : List TokenView) → 1 ≤ length ts → head (ts ++ more) ≡ head ts
 head_same [] more some = absurd (omega arith)
 head_same (t ∷ ts) more some = refl
 

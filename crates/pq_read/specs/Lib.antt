@@ -22,3 +22,4 @@ pub mod Begins
 pub mod Feeding
 pub mod CutWell
 pub mod GateMatrices
+pub mod Expected

@@ -1,6 +1,9 @@
 ghost use Rattle.std.specs.Prelude.{◌≡◌, ◌+◌, ◌^◌, ◌<◌, ◌≤◌, ◌&&◌, true, length, codes, bytes_eq};
 ghost use Rattle.pq_lex.specs.Lex.{tokens};
 ghost use Rattle.pq_read.specs.declared.program.Options.{Options};
+ghost use Rattle.pq_lex.specs.Token.{seen};
+ghost use Rattle.pq_read.specs.declared.known.Expected.TheVariants.{Nothing};
+ghost use Rattle.pq_read.specs.Expected.{after_token};
 ghost use Rattle.pq_read.specs.Begins.{position_of};
 ghost use Rattle.pq_read.specs.Drafts.{env_of};
 ghost use Rattle.pq_read.specs.Leads.{HasFault, FailsAt};
@@ -19,6 +22,40 @@ use std::alloc::Global;
 // A statement that is no barrier is read or refused by so many tokens.
 const ENOUGH: u32 = 16;
 
+// What a barrier has next.
+#[derive(Clone, Copy)]
+enum Expected {
+    Name,
+    AfterName,
+    Index,
+    AfterIndex,
+    AfterBracket,
+    Nothing,
+}
+
+impl Expected {
+    // What it has behind a token.
+    fn after(self, token: &Token) -> Expected
+        ensures { result ≡ after_token self (seen token.now) }
+    {
+        match self {
+            Expected::Name if has_form(token, Form::Word) => Expected::AfterName,
+            Expected::AfterName if has_form(token, Form::LeftBracket) => Expected::Index,
+            Expected::AfterName if has_form(token, Form::Comma) => Expected::Name,
+            Expected::Index if has_form(token, Form::Number) => Expected::AfterIndex,
+            Expected::AfterIndex if has_form(token, Form::RightBracket) => Expected::AfterBracket,
+            Expected::AfterBracket if has_form(token, Form::Comma) => Expected::Name,
+            _ => Expected::Nothing,
+        }
+    }
+
+    fn is_nothing(self) -> bool
+        ensures { result ≡ true → self ≡ Nothing }
+    {
+        matches!(self, Expected::Nothing)
+    }
+}
+
 // Whether a statement begins a barrier by its first token.
 fn begins_barrier(draft: &Draft, first: &Token) -> bool
     ensures { result ≡ (draft.now.header && bytes_eq (codes "barrier") first.now.bytes.now) }
@@ -26,8 +63,8 @@ fn begins_barrier(draft: &Draft, first: &Token) -> bool
     draft.header && is_text(b"barrier", first.bytes)
 }
 
-/// Whether what is begun is refused whatever follows it: its tokens end with a malformed one, or they are more than a
-/// statement has that is no barrier.
+/// Whether what is begun is refused whatever follows it: its tokens end with a malformed one, they are as many as a
+/// statement has that is no barrier, or they begin a barrier and go on as none does.
 pub fn has_known_fault(draft: &Draft, begun: &Begun) -> bool
     requires column { 1 ≤ begun.now.column }
     requires fits { begun.now.line + (begun.now.column + length begun.now.bytes.items) < 2 ^ 32 }
@@ -42,8 +79,12 @@ pub fn has_known_fault(draft: &Draft, begun: &Begun) -> bool
     }
     let long = begins_barrier(draft, &first);
     let mut count: u32 = 1;
+    let mut expected = Expected::Name;
     'tokens: loop {
         if !long && count >= ENOUGH {
+            return true;
+        }
+        if long && expected.is_nothing() {
             return true;
         }
         let Some(token) = lexer.sure() else {
@@ -53,6 +94,7 @@ pub fn has_known_fault(draft: &Draft, begun: &Begun) -> bool
             return false;
         }
         count = count.saturating_add(1);
+        expected = expected.after(&token);
     }
 }
 

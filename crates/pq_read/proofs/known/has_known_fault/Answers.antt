@@ -4,7 +4,7 @@ use Rattle.pq_lex.specs.Token.{seen}
 use Rattle.pq_lex.specs.Added.{extended}
 use Rattle.pq_read.specs.Begins.{position_of}
 use Rattle.pq_read.specs.Drafts.{env_of}
-use Rattle.pq_read.proofs.Walked.{walked_first, walked_on, walked_enough, walked_malformed, malformed_first}
+use Rattle.pq_read.proofs.Walked.{walked_first, walked_on, walked_enough, walked_strays, walked_malformed, malformed_first}
 use Rattle.pq_read.proofs.known.has_known_fault.Goals as goal
 
 pub returns-in_default : goal.returns-in_default
@@ -23,14 +23,19 @@ tokens-init c =
 pub returns-then-count-ge-ENOUGH : goal.returns-then-count-ge-ENOUGH
 returns-then-count-ge-ENOUGH c = λ _.
     let long : c.begins_barrier-long.result ≡ false = c.if-not-long.true in
-    walked_enough (env_of c.args.draft.now) (position_of c.args.begun.now) c.tokens.lexer c.begins_barrier-long.result c.tokens.count c.tokens.invariant long (grind arith)
+    walked_enough (env_of c.args.draft.now) (position_of c.args.begun.now) c.tokens.lexer c.begins_barrier-long.result c.tokens.count c.tokens.expected c.tokens.invariant long (grind arith)
 
 pub returns-in_default-sure : goal.returns-in_default-sure
 returns-in_default-sure c = λ is.
-    walked_malformed (env_of c.args.draft.now) (position_of c.args.begun.now) c.tokens.lexer c.sure-in-tokens.new.self c.begins_barrier-long.result c.tokens.count c.tokens.invariant
+    walked_malformed (env_of c.args.draft.now) (position_of c.args.begun.now) c.tokens.lexer c.sure-in-tokens.new.self c.begins_barrier-long.result c.tokens.count c.tokens.expected c.tokens.invariant
     c.in_default-sure.ensures.stays (c.is_malformed-in_default-sure.ensures is)
 
 pub tokens-preserved : goal.tokens-preserved
 tokens-preserved c =
-    walked_on (env_of c.args.draft.now) (position_of c.args.begun.now) c.tokens.lexer c.sure-in-tokens.new.self (seen c.in-Some-sure.token) c.begins_barrier-long.result c.tokens.count c.saturating_add-count.result c.tokens.invariant
-    c.in-Some-sure.ensures.inner (sym c.has_form-in-tokens.ensures ∙ c.if-has_form-2.false) (grind arith) c.in-Some-sure.ensures.found
+    walked_on (env_of c.args.draft.now) (position_of c.args.begun.now) c.tokens.lexer c.sure-in-tokens.new.self (seen c.in-Some-sure.token) c.begins_barrier-long.result c.tokens.count c.saturating_add-count.result c.tokens.expected c.after-expected.result c.tokens.invariant
+    c.in-Some-sure.ensures.inner (sym c.has_form-in-tokens.ensures ∙ c.if-has_form-2.false) (grind arith) c.after-expected.ensures c.in-Some-sure.ensures.found
+
+pub returns-then-is_nothing : goal.returns-then-is_nothing
+returns-then-is_nothing c = λ _.
+    walked_strays (env_of c.args.draft.now) (position_of c.args.begun.now) c.tokens.lexer c.begins_barrier-long.result c.tokens.count c.tokens.expected c.tokens.invariant c.if-long.true
+    (c.is_nothing.ensures c.if-is_nothing.true)

@@ -7,7 +7,7 @@ use Rattle.pq_read.proofs.Walked.{Walked}
 use Rattle.pq_read.proofs.known.has_known_fault.Given as goal
 
 abbrev pub invariant-tokens : goal.invariant-tokens
-invariant-tokens l = Walked (env_of l.draft) (position_of l.begun) l.lexer l.long l.count
+invariant-tokens l = Walked (env_of l.draft) (position_of l.begun) l.lexer l.long l.count l.expected
 
 abbrev pub decreases-tokens : goal.decreases-tokens
 decreases-tokens l = length (tokens (extended l.lexer []))
