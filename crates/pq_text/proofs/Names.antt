@@ -18,7 +18,7 @@ list_any_decides words name = (
   λ among. list_any_at (λ word. bytes_eq word name) words among.0 name among.1 ((bytes_eq-Decides (get_or words among.0 name) name).1 among.2),
 )
 
-and_both : (a b : Bool) → (a && b) ≡ true → (a ≡ true) × (b ≡ true)
+pub and_both : (a b : Bool) → (a && b) ≡ true → (a ≡ true) × (b ≡ true)
 and_both true b h = (refl, h)
 and_both false b h = absurd (false≢true h)
 
