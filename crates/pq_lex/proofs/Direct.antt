@@ -140,10 +140,10 @@ end_last p is = by p.rest is where
   by [] h = refl
   by (b ∷ rest) h = absurd (false≢true (sym (eqb-suc-zero (length rest)) ∙ h))
 
-digit_no_letter : (b : ℕ) → is_no_digit b ≡ false → is_ascii_alphabetic b ≡ false
+pub digit_no_letter : (b : ℕ) → is_no_digit b ≡ false → is_ascii_alphabetic b ≡ false
 digit_no_letter b h = grind (arith, nat_tests)
 
-digit_is : (b : ℕ) → is_no_digit b ≡ false → is_ascii_digit b ≡ true
+pub digit_is : (b : ℕ) → is_no_digit b ≡ false → is_ascii_digit b ≡ true
 digit_is b h = grind (arith, nat_tests)
 
 some_digits_first : (b : ℕ) (rest : List ℕ) → 1 ≤ position_or_len is_no_digit (b ∷ rest) → is_no_digit b ≡ false

@@ -3,6 +3,9 @@ pub mod Lexing
 pub mod Forms
 pub mod Added
 pub mod Direct
+pub mod Parts
+pub mod Longest
+pub mod Malformed
 pub mod Values
 pub mod Ending
 pub mod Lines

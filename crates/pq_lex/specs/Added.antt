@@ -1,5 +1,5 @@
 -- What bytes added at the end of a text change: only what stands after a token that three bytes follow.
-use Rattle.std.specs.Prelude.{◌≡◌, ℕ, ◌+◌, ◌<◌, ◌≤◌, false, ◌==◌, List, ◌++◌, length, slice_index, if◌then◌else◌}
+use Rattle.std.specs.Prelude.{◌≡◌, ℕ, ◌+◌, ◌<◌, ◌≤◌, false, ◌==◌, List, [], ◌∷◌, ◌++◌, length, slice_index, if◌then◌else◌}
 use Rattle.pq_lex.specs.declared.token.Form.TheVariants.{Malformed}
 use Rattle.pq_lex.specs.Token.{TokenView, number_of}
 use Rattle.pq_lex.specs.Front.{blank_length, front}
@@ -28,3 +28,9 @@ pub record ChangesLater (p : Position) (more : List ℕ) : Type 0 where
       → (tokens p ≡ tokens (after_blank p)) × (tokens (extended p more) ≡ tokens (extended (after_blank p) more))
   pub token : blank_length p.rest ≡ 0 → (number_of (front p.rest).form == number_of Malformed) ≡ false → (front p.rest).count + 3 ≤ length p.rest
       → (tokens p ≡ from_token (first_token p) (tokens (after_token p))) × (tokens (extended p more) ≡ from_token (first_token p) (tokens (extended (after_token p) more)))
+
+-- The tokens are a malformed one alone, whatever is added.
+pub record StaysMalformed (p : Position) : Type 0 where
+  pub token : TokenView
+  pub malformed : token.form ≡ Malformed
+  pub always : (more : List ℕ) → tokens (extended p more) ≡ token ∷ []

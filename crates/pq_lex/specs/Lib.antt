@@ -3,3 +3,4 @@ pub mod Front
 pub mod Lex
 pub mod Added
 pub mod Ends
+pub mod Grammar

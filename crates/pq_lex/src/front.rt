@@ -1,7 +1,8 @@
-ghost use Rattle.std.specs.Prelude.{◌≡◌, ◌+◌, ◌^◌, ◌<◌, ◌≤◌, length, take, min, true, IsTrue};
+ghost use Rattle.std.specs.Prelude.{◌≡◌, ◌+◌, ◌^◌, ◌<◌, ◌≤◌, length, take, drop, slice_index, min, true, IsTrue};
 ghost use Rattle.std.specs.List.{position_or_len};
 ghost use Rattle.pq_lex.specs.Front.{is_outside_word, is_no_digit, is_newline, is_unquotable, blank_length, some_digits, exponent_digits, exponent_length, fraction_length, decimal_length, number_front, quoted_front, begins_with, mark_front, mark_byte, fronted, front, form_and_count};
 ghost use Rattle.pq_lex.specs.declared.token.Form.TheVariants.{Word, Number};
+ghost use Rattle.pq_lex.specs.Token.{is_last};
 ghost use Rattle.std.specs.List.{list_all};
 ghost use Rattle.std.specs.Char.{is_ascii_digit};
 ghost use Rattle.std.specs.Str.Parse.{digits_value};
@@ -327,5 +328,23 @@ pub(crate) fn blank_front(text: &[u8]) -> usize
         [b' ' | b'\t' | b'\r' | b'\n', ..] => 1,
         [b'/', b'/', rest @ ..] => 2 + line_bytes(rest),
         _ => 0,
+    }
+}
+
+/// Whether nothing is read after a token of this form.
+pub(crate) fn is_last(form: Form) -> bool
+    ensures { result ≡ is_last form }
+{
+    matches!(form, Form::Missing | Form::Malformed)
+}
+
+/// Whether a byte follows the first one, and where that is a `"`, its line ends.
+pub(crate) fn is_decided(text: &[u8]) -> bool
+    ensures some { result ≡ true → 2 ≤ length text.now }
+    ensures line { result ≡ true → slice_index text.now 0 ≡ 34 → position_or_len is_newline (drop 1 text.now) < length (drop 1 text.now) }
+{
+    match text {
+        [b'"', line @ ..] => line_bytes(line) < line.len(),
+        _ => text.len() >= 2,
     }
 }

@@ -3,6 +3,7 @@ ghost use Rattle.pq_lex.specs.Added.{ChangesLater};
 ghost use Rattle.pq_lex.specs.Ends.{IsEnded, EndsForGood};
 ghost use Rattle.pq_lex.specs.declared.ends.Mode.TheVariants.{Code};
 ghost use Rattle.pq_lex.specs.Lex.{Position, tokens};
+ghost use Rattle.pq_lex.specs.Grammar.{BeginsLongest};
 ghost use Rattle.pq_lex.specs.declared.token.Form.{Form};
 ghost use Rattle.pq_lex.specs.Token.{number_of};
 
@@ -26,4 +27,10 @@ pub fn added_bytes_change_what_follows()
 /// none.
 pub fn texts_end_for_good()
     ensures { (p : Position) → 1 ≤ p.column → IsEnded Code p.rest → EndsForGood p }
+{}
+
+/// Where nothing is to be skipped, the first token is the longest front of the text that has the form of a word, a
+/// number, a quoted text or a mark.
+pub fn tokens_are_longest()
+    ensures { (p : Position) → BeginsLongest p }
 {}

@@ -5,12 +5,15 @@ ghost use Rattle.std.specs.Str.Parse.{digits_value};
 ghost use Rattle.pq_lex.specs.declared.token.Form.TheVariants.{Word, Number, Missing};
 ghost use Rattle.pq_lex.specs.Token.{seen, is_last, number_of};
 ghost use Rattle.pq_lex.specs.Front.{blank_length, fronted, front, mark_byte};
-ghost use Rattle.pq_lex.specs.Added.{extended, after_blank};
+ghost use Rattle.pq_lex.specs.Added.{extended, after_blank, StaysMalformed};
 ghost use Rattle.pq_lex.specs.Ends.{mode_after};
 ghost use Rattle.pq_lex.specs.declared.ends.Mode.TheVariants.{Code};
 ghost use Rattle.pq_lex.specs.Lex.{Position, tokens, moved, next_line, tokens_of, from_token, first_form};
 
-use crate::front::{GREAT, blank_front, byte_of, integer_front, is_next, token_front, word_front};
+use crate::front::{
+    GREAT, blank_front, byte_of, integer_front, is_decided, is_last, is_next, token_front,
+    word_front,
+};
 use crate::token::{Form, Token};
 use pq_limits::MAX_INPUT;
 use std::marker::Model;
@@ -192,6 +195,8 @@ impl<'t> Lexer<'t> {
         ensures taken { tokens self.old ≡ from_token (seen result) (tokens self.new) }
         ensures form { result.form ≡ form }
         ensures bytes { result.bytes.now ≡ take count self.old.rest }
+        ensures sure { is_last form ≡ false → count + 3 ≤ length self.old.rest
+            → (more : List ℕ) → tokens (extended self.old more) ≡ from_token (seen result) (tokens (extended self.new more)) }
     {
         let token = Token {
             form,
@@ -211,6 +216,32 @@ impl<'t> Lexer<'t> {
         self.skip_blanks();
         let (form, count) = token_front(self.rest);
         self.take(form, count)
+    }
+
+    /// The next token where it is the same whatever bytes are added to the text: three bytes follow it.
+    pub fn sure(&mut self) -> Option<Token<'t>>
+        ensures found { IfSome result (λ t. (more : List ℕ) → tokens (extended self.old more) ≡ from_token (seen t) (tokens (extended self.new more))) }
+        ensures inner { IfSome result (λ t. is_last t.form ≡ false) }
+        ensures stays { IfNone result ((more : List ℕ) → tokens (extended self.new more) ≡ tokens (extended self.old more)) }
+    {
+        self.skip_followed();
+        let (form, count) = token_front(self.rest);
+        if is_last(form) || self.rest.len() < count + 3 || blank_front(self.rest) != 0 {
+            None
+        } else {
+            Some(self.take(form, count))
+        }
+    }
+
+    /// Whether a malformed token comes next whatever bytes are added to the text.
+    pub fn is_malformed(&self) -> bool
+        ensures { result ≡ true → StaysMalformed self.now }
+    {
+        if !is_decided(self.rest) || blank_front(self.rest) != 0 {
+            return false;
+        }
+        let (form, _) = token_front(self.rest);
+        form.number() == Form::Malformed.number()
     }
 
     /// The next token where it is this mark, which is one of those that no longer mark begins with.

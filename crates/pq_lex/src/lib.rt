@@ -13,6 +13,7 @@ pub use ends::{Ended, Mode, last_end};
 pub use front::GREAT;
 pub use laws::{
     added_bytes_change_what_follows, forms_have_numbers, texts_end_for_good, texts_have_tokens,
+    tokens_are_longest,
 };
 pub use lexer::Lexer;
 pub use token::{Form, Token};

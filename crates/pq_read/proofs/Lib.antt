@@ -10,9 +10,16 @@ pub mod Marks
 pub mod Pieces
 pub mod Splicing
 pub mod Leading
+pub mod Reaching
+pub mod CutWell
+pub mod Short
+pub mod FirstTokens
+pub mod Straying
+pub mod Walked
 pub mod Beginning
 pub mod Fed
 pub mod Answers
 pub mod Circuits
 pub mod Formed
+pub mod GateMatrices
 pub mod Kept

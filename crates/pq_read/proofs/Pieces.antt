@@ -97,7 +97,7 @@ beyond_less (t ∷ ts) h =
     let h : length (beyond ts) ≤ length ts = beyond_le ts in
     elim (is_form Semicolon t) as (λ b. length (cond b ts (beyond ts)) < length (t ∷ ts)) [ true ↦ omega arith | false ↦ omega arith ]
 
-pub is_gate : TokenView → Bool
+unfoldable pub is_gate : TokenView → Bool
 is_gate t = is_form Word t && bytes_eq (codes "gate") t.bytes
 
 step : Form → TokenView → List TokenView → Cut
@@ -114,7 +114,7 @@ gate_word true = refl
 gate_word false = refl
 
 -- a piece that begins with the word `gate` is refused at it
-gate_fault : Env → TokenView → Refusal
+pub gate_fault : Env → TokenView → Refusal
 gate_fault E t = cond E.header (refused Unsupported t) (refused NoHeader t)
 
 gate_piece_of : (options : Options) (E : Env) (line column : ℕ) (ts : List TokenView)
@@ -128,7 +128,7 @@ gate_piece_of options E line column ts =
       | false ↦ refl
     ]
 
-gate_piece : (options : Options) (E : Env) (t : TokenView) (ts : List TokenView) → is_gate t ≡ true → piece_at options E (t ∷ ts) ≡ Err (gate_fault E t)
+pub gate_piece : (options : Options) (E : Env) (t : TokenView) (ts : List TokenView) → is_gate t ≡ true → piece_at options E (t ∷ ts) ≡ Err (gate_fault E t)
 unfolding is_gate
 gate_piece options E t ts is =
     let both = and_both _ _ is in

@@ -4,6 +4,7 @@ use Rattle.pq_lex.specs.Token.{TokenView}
 use Rattle.pq_lex.specs.Lex.{Place, Position, tokens}
 use Rattle.pq_lex.specs.Added.{extended}
 use Rattle.pq_lex.specs.Ends.{spliced, missing_at, AreClosed}
+use Rattle.pq_read.specs.declared.refusal.Refusal.{Refusal}
 use Rattle.pq_read.specs.declared.refusal.ReadError.{ReadError}
 use Rattle.pq_read.specs.declared.refusal.ReadError.TheVariants as errors
 use Rattle.pq_read.specs.declared.program.Options.{Options}
@@ -37,6 +38,10 @@ FailsAt options E p (errors.Refused fault) = (more : List ℕ) → read_tokens o
 abbrev pub FailsFrom : {A : Type 0} → Options → Env → Position → Result A ReadError → Type 0
 FailsFrom options E p (Ok x) = Unit {0}
 FailsFrom options E p (Err e) = FailsAt options E p e
+
+-- A fault is known, whatever follows.
+abbrev pub HasFault : Options → Env → Position → Type 0
+HasFault options E p = (fault : Refusal) × FailsAt options E p (errors.Refused fault)
 
 -- a line and a column that are together at most a bound
 abbrev pub IsWithin : (ℕ × ℕ) → ℕ → Type 0

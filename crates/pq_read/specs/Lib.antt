@@ -20,3 +20,6 @@ pub mod Gives
 pub mod Leads
 pub mod Begins
 pub mod Feeding
+pub mod CutWell
+pub mod GateMatrices
+pub mod Expected

@@ -1,22 +1,13 @@
 -- The first words of statements.
-use Rattle.std.specs.Prelude.{ℕ, Bool, ◌&&◌, ◌||◌, not, List, [], ◌∷◌, Option, Some, None, codes, slice_index, bytes_eq, if◌then◌else◌, ◌==◌}
-use Rattle.std.specs.List.{list_any, list_all}
-use Rattle.std.specs.Char.{is_ascii_lowercase, is_ascii_alphanumeric}
+use Rattle.std.specs.Prelude.{ℕ, Bool, List, [], ◌∷◌, Option, Some, None, codes, bytes_eq, if◌then◌else◌}
+use Rattle.std.specs.List.{list_any}
 use Rattle.pq_gate.specs.declared.gate.Eighths.TheVariants.{T, S, Z, Sdg, Tdg}
-use Rattle.pq_text.specs.Name.{reserved_words}
+unfoldable pub use Rattle.pq_text.specs.Name.{is_name}
 use Rattle.pq_text.specs.Print.{phase_word}
 use Rattle.pq_read.specs.declared.word.GateWord.{GateWord}
 use Rattle.pq_read.specs.declared.word.GateWord.TheVariants.{H, X, Y, Id, Phase, Cx, Cz, Cy, Swap, Ccx}
 use Rattle.pq_read.specs.declared.word.FirstWord.{FirstWord}
 use Rattle.pq_read.specs.declared.word.FirstWord.TheVariants.{Include, Qreg, Creg, Barrier, Measure, Gate, Unsupported, Unknown}
-
--- A name begins with a lower-case letter, has letters, digits and `_` after it, and is no word of the
--- language.
-abbrev pub is_name_byte : ℕ → Bool
-is_name_byte b = is_ascii_alphanumeric b || b == 95
-
-unfoldable pub is_name : List ℕ → Bool
-is_name name = is_ascii_lowercase (slice_index name 0) && (list_all is_name_byte name && not (list_any (λ word. bytes_eq word name) reserved_words))
 
 -- the name of each gate that the include makes known
 abbrev pub gate_text : GateWord → List ℕ

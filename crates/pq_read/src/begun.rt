@@ -10,6 +10,7 @@ ghost use Rattle.pq_read.specs.Drafts.{env_of};
 ghost use Rattle.pq_read.specs.Leads.{Leads, FailsFrom, IsWithin};
 
 use crate::draft::Draft;
+use crate::known::{has_known_fault, known_fault};
 use crate::program::{Options, Program};
 use crate::refusal::ReadError;
 use crate::statements::{read_ended, read_rest};
@@ -18,14 +19,18 @@ use pq_limits::MAX_GATES;
 use pq_list::OutOfMemory;
 use std::alloc::Global;
 
-/// The statement that isn't finished: its bytes so far, the place where they begin, and what the next byte is
-/// read as.
+// How many bytes a statement has before a fault in it is looked for.
+const LONG: usize = 4096;
+
+/// The statement that isn't finished: its bytes so far, the place where they begin, what the next byte is read as,
+/// and how many bytes there are when a fault is looked for the next time.
 #[derive(Drop)]
 pub struct Begun {
     pub bytes: Vec<u8>,
     pub line: u32,
     pub column: u32,
     pub mode: Mode,
+    pub due: usize,
 }
 
 impl Begun {
@@ -39,6 +44,7 @@ impl Begun {
             line: 1,
             column: 1,
             mode: Mode::Code,
+            due: LONG,
         }
     }
 }
@@ -64,6 +70,7 @@ fn begin(
         line: lexer.line(),
         column: lexer.column(),
         mode,
+        due: LONG,
     })
 }
 
@@ -79,6 +86,7 @@ fn grow(alloc: Global, begun: Begun, piece: &[u8], mode: Mode) -> Result<Begun, 
         line,
         column,
         mode: _,
+        due,
     } = begun;
     let has_token = bytes.len() > 2;
     bytes.extend_from_slice(piece)?;
@@ -88,6 +96,7 @@ fn grow(alloc: Global, begun: Begun, piece: &[u8], mode: Mode) -> Result<Begun, 
             line,
             column,
             mode,
+            due,
         })
     } else {
         begin(alloc, bytes.as_slice(), line, column, mode)
@@ -116,6 +125,7 @@ fn read_front(
         line,
         column,
         mode: _,
+        due: _,
     } = begun;
     if bytes.is_empty() {
         return read_ended(alloc, draft, text, line, column, options);
@@ -124,6 +134,34 @@ fn read_front(
         Ok(()) => read_ended(alloc, draft, bytes.as_slice(), line, column, options),
         Err(_) => Err(ReadError::OutOfMemory),
     }
+}
+
+// What is begun, or its fault where it is long and its fault is known. It is looked for again once there are twice as
+// many bytes.
+fn refuse_long(
+    alloc: Global,
+    draft: &mut Draft,
+    mut begun: Begun,
+    options: Options,
+) -> Result<Begun, ReadError>
+    requires gates { length draft.old.gates.items ≤ MAX_GATES }
+    requires column { 1 ≤ begun.column }
+    requires fits { begun.line + (begun.column + length begun.bytes.items) < 2 ^ 32 }
+    ensures same { IfOk result (λ b. position_of b ≡ position_of begun) }
+    ensures mode { IfOk result (λ b. b.mode ≡ begun.mode) }
+    ensures draft { OnOk result (env_of draft.new ≡ env_of draft.old) }
+    ensures within { OnOk result (length draft.new.gates.items ≤ MAX_GATES) }
+    ensures fails { FailsFrom options (env_of draft.old) (position_of begun) result }
+{
+    let count = begun.bytes.len();
+    if count < begun.due {
+        return Ok(begun);
+    }
+    if has_known_fault(draft, &begun) {
+        return Err(known_fault(alloc, draft, &begun, options));
+    }
+    begun.due = 2 * count;
+    Ok(begun)
 }
 
 /// Reads what is begun with a piece behind it, as far as statements are finished, and answers what is begun then.
@@ -147,7 +185,7 @@ pub fn read_piece(
     let ended = last_end(begun.mode, piece);
     if ended.count == 0 {
         return match grow(alloc, begun, piece, ended.mode) {
-            Ok(begun) => Ok(begun),
+            Ok(begun) => refuse_long(alloc, draft, begun, options),
             Err(_) => Err(ReadError::OutOfMemory),
         };
     }

@@ -3,7 +3,7 @@ ghost use Rattle.pq_lex.specs.Token.{seen};
 ghost use Rattle.pq_lex.specs.Lex.{tokens};
 ghost use Rattle.pq_text.specs.Program.{places_of};
 ghost use Rattle.pq_read.specs.Environment.{register_view};
-ghost use Rattle.pq_read.specs.Words.{is_name as is_name_of};
+ghost use Rattle.pq_text.specs.Name.{is_name};
 ghost use Rattle.pq_read.specs.Faults.{value_of};
 ghost use Rattle.pq_read.specs.After.{is_taken, new_name, new_size, declared_at};
 ghost use Rattle.pq_read.specs.Registers.{IsNew};
@@ -12,10 +12,11 @@ ghost use Rattle.pq_read.specs.Gives.{Gives, left, later};
 use crate::name::{Name, name_of};
 use crate::program::Register;
 use crate::refusal::{Kind, ReadError};
-use crate::registers::{Registers, is_name};
+use crate::registers::Registers;
 use crate::token::{demand_end, demand_mark, demand_word, integer, refused};
 use pq_lex::{Form, GREAT, Lexer, Token};
 use pq_limits::{MAX_NAME, MAX_PLACES};
+use pq_text::is_lawful_name;
 use std::alloc::Global;
 
 // Whether a register of either kind has this name.
@@ -28,10 +29,10 @@ fn has_register(quantum: &Registers, classical: &Registers, name: &[u8]) -> bool
 // The name of a new register.
 fn check_name(quantum: &Registers, classical: &Registers, token: &Token) -> Result<(), ReadError>
     ensures read { Gives (λ _. token.now.bytes.now) result (new_name quantum.now classical.now (seen token.now)) }
-    ensures named { OnOk result (is_name_of token.now.bytes.now ≡ true) }
+    ensures named { OnOk result (is_name token.now.bytes.now ≡ true) }
     ensures free { OnOk result (is_taken quantum.now classical.now token.now.bytes.now ≡ false) }
 {
-    if !is_name(token.bytes) {
+    if !is_lawful_name(token.bytes) {
         return Err(refused(Kind::Syntax, token));
     }
     if token.bytes.len() > MAX_NAME {

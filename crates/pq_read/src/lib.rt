@@ -9,6 +9,7 @@ mod declaration;
 mod draft;
 mod gate;
 mod header;
+mod known;
 mod laws;
 mod name;
 mod program;
@@ -21,7 +22,10 @@ mod tail_statement;
 mod token;
 mod word;
 
-pub use laws::{programs_are_well_formed, texts_have_one_answer};
+pub use laws::{
+    expansions_have_their_matrices, programs_are_well_formed, texts_are_cut_well,
+    texts_have_one_answer,
+};
 pub use name::Name;
 pub use program::{Options, Program, RegList, Register, TailItem, TailList};
 pub use reader::{Reader, read_text};

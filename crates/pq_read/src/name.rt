@@ -1,5 +1,5 @@
 ghost use Rattle.std.specs.Prelude.{◌≡◌, true, IfOk};
-ghost use Rattle.pq_read.specs.Words.{is_name};
+ghost use Rattle.pq_text.specs.Name.{is_name};
 
 use pq_list::OutOfMemory;
 use std::alloc::Global;

@@ -1,7 +1,6 @@
 ghost use Rattle.std.specs.Prelude.{◌≡◌, ◌+◌, ◌<◌, ◌≤◌, ◌↔◌, ◌∷◌, [], ◌++◌, length, None, Some, OnOk, IfOk, IfSome, IsTrue, bytes_eq, map, All};
 ghost use Rattle.pq_lex.specs.Token.{seen};
 ghost use Rattle.pq_text.specs.Program.{places_of};
-ghost use Rattle.pq_read.specs.Words.{is_name as is_name_of};
 ghost use Rattle.pq_read.specs.Environment.{span_from};
 ghost use Rattle.pq_read.specs.Arguments.{register_of};
 ghost use Rattle.pq_read.specs.Registers.{IsSpan, IsNew};
@@ -19,13 +18,6 @@ use pq_text::is_lawful_name;
 use std::alloc::Global;
 use std::collections::BTreeMap;
 use std::marker::Model;
-
-/// Whether a word is a name.
-pub fn is_name(word: &[u8]) -> bool
-    ensures { result ≡ is_name_of word.now }
-{
-    is_lawful_name(word)
-}
 
 /// The registers of one kind in order of declaration. Their places are numbered from 0. Contracts see
 /// their names and sizes. Beside the list stands the span of each name.
@@ -146,7 +138,7 @@ impl Registers {
         if let Some(span) = self.find(word.bytes) {
             return Ok(span);
         }
-        if is_name(word.bytes) {
+        if is_lawful_name(word.bytes) {
             Err(refused(Kind::UnknownRegister, word))
         } else {
             Err(refused(Kind::Syntax, word))

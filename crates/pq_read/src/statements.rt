@@ -26,8 +26,8 @@ fn is_done(draft: &Draft, lexer: &mut Lexer) -> bool
     draft.header && ended
 }
 
-// The pieces of a text one after another, and its rest.
-fn read_pieces(
+/// The pieces of a text one after another, and its rest.
+pub fn read_pieces(
     alloc: Global,
     draft: &mut Draft,
     lexer: &mut Lexer,

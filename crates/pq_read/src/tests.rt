@@ -1,4 +1,5 @@
 use crate::{Name, Options, Program, ReadError, Reader, RegList, TailList, read_text};
+use pq_gate::{Eighths, Gate};
 use pq_limits::MAX_INPUT;
 use pq_list::OutOfMemory;
 use std::alloc::Global;
@@ -321,6 +322,84 @@ fn tokens_may_be_cut(rt: HostRuntime) -> Result<(), OutOfMemory> {
     ] {
         assert!(rt; is_told_at_each_cut(rt.alloc(), text.as_bytes(), want)?);
     }
+    Ok(())
+}
+
+// What some lines and then a text so many times tell, in pieces of 1,000 bytes.
+fn told_long(
+    alloc: Global,
+    lines: &str,
+    more: &str,
+    count: u32,
+    end: &str,
+) -> Result<Option<(u8, u32, u32)>, OutOfMemory> {
+    let mut text = Vec::new(alloc);
+    text.extend_from_slice(b"OPENQASM 2.0;\ninclude \"qelib1.inc\";\nqreg q[2];\n")?;
+    text.extend_from_slice(lines.as_bytes())?;
+    for _ in 0..count {
+        text.extend_from_slice(more.as_bytes())?;
+    }
+    text.extend_from_slice(end.as_bytes())?;
+    told_in_pieces(alloc, text.as_slice(), 1000)
+}
+
+#[test]
+fn long_statements_are_read_as_short_ones(rt: HostRuntime) -> Result<(), OutOfMemory> {
+    for (lines, more, end, want) in [
+        ("", "@", "", (2, 4, 1)),
+        ("h q[0] ", "@ ", "; h q;", (2, 4, 8)),
+        ("", "q ", ";", (4, 4, 1)),
+        ("cx q[0],", "[", "", (3, 4, 9)),
+        ("cx q[0],q[0] ", "] ", "", (8, 4, 9)),
+        ("cx q[0],q[1", " ", "];", (0, 1, 0)),
+        ("cx q[0],q[1] // ", "x", "\n;", (0, 1, 0)),
+        ("barrier q", ",q", ";", (0, 0, 1)),
+        ("barrier q", ",q", ",r;", (5, 4, 10_011)),
+        ("barrier q", " q", ";", (3, 4, 11)),
+        ("include \"", "a", "\";", (10, 4, 9)),
+    ] {
+        assert_eq!(rt; told_long(rt.alloc(), lines, more, 5000, end)?, Some(want));
+    }
+    Ok(())
+}
+
+// Whether a statement over two registers of two stands for these gates.
+fn stands_for(alloc: Global, statement: &str, gates: &[Gate]) -> Result<bool, OutOfMemory> {
+    let mut text = Vec::new(alloc);
+    text.extend_from_slice(b"OPENQASM 2.0;\ninclude \"qelib1.inc\";\nqreg a[2];\nqreg b[2];\n")?;
+    text.extend_from_slice(statement.as_bytes())?;
+    if text.len() as u64 > MAX_INPUT {
+        return Ok(false);
+    }
+    let options = Options {
+        drop_barriers: false,
+    };
+    match read_text(alloc, text.as_slice(), options) {
+        Ok(program) => Ok(program.gates.as_slice() == gates),
+        Err(_) => Ok(false),
+    }
+}
+
+fn phase(eighths: Eighths, wire: u32) -> Gate {
+    Gate::Phase { eighths, wire }
+}
+
+fn cx(control: u32, target: u32) -> Gate {
+    Gate::Cx { control, target }
+}
+
+#[test]
+fn statements_stand_for_the_gates_of_the_standard(rt: HostRuntime) -> Result<(), OutOfMemory> {
+    let alloc = rt.alloc();
+    let h = Gate::H { wire: 3 };
+    let x = Gate::X { wire: 1 };
+    let y = [phase(Eighths::Sdg, 1), x, phase(Eighths::S, 1)];
+    assert!(rt; stands_for(alloc, "y a[1];", &y)?);
+    assert!(rt; stands_for(alloc, "cz a[0],b[1];", &[h, cx(0, 3), h])?);
+    let cy = [phase(Eighths::Sdg, 2), cx(1, 2), phase(Eighths::S, 2)];
+    assert!(rt; stands_for(alloc, "cy a[1],b[0];", &cy)?);
+    let swap = [cx(0, 2), cx(2, 0), cx(0, 2), cx(1, 3), cx(3, 1), cx(1, 3)];
+    assert!(rt; stands_for(alloc, "swap a,b;", &swap)?);
     Ok(())
 }
 

@@ -3,6 +3,7 @@ ghost use Rattle.std.specs.List.{list_any};
 ghost use Rattle.pq_read.specs.Words.{coupled_gates, turning_gates, other_gates, among, or_else, included_gate, always_gate, gate_named, more_arguments, unsupported_words, other_word, first_word};
 
 use pq_gate::Eighths;
+use pq_text::is_among;
 
 /// The gates of the language that are accepted, by their names.
 #[derive(Clone, Copy)]
@@ -157,12 +158,6 @@ fn is_unsupported(word: &[u8]) -> bool
     ensures { result ≡ list_any (λ known. bytes_eq known word.now) unsupported_words }
 {
     is_among(&UNSUPPORTED, word)
-}
-
-fn is_among(words: &[&str], word: &[u8]) -> bool
-    ensures { result ≡ list_any (λ known. bytes_eq known.now word.now) words.now }
-{
-    words.iter().any(|known| known.as_bytes() == word)
 }
 
 // What a statement is by a first word that is no known gate.

@@ -4,7 +4,7 @@
 
 mod name;
 
-pub use name::is_lawful_name;
+pub use name::{is_among, is_lawful_name};
 
 #[cfg(test)]
 mod tests;
