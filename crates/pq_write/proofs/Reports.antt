@@ -1,5 +1,8 @@
 -- The text of a report, number by number.
-use Rattle.std.proofs.Common.{◌≡◌, List, ℕ, ◌++◌, codes, decimal, append_assoc}
+use Rattle.std.proofs.Common.{◌≡◌, List, ℕ, ◌+◌, ◌≤◌, ◌<◌, ◌^◌, ◌++◌, length, codes, decimal, append_assoc, ap, ◌∙◌, arith}
+use Rattle.std.proofs.lemmas.List.{length-append}
+use Rattle.pq_list.specs.Roomed.{Roomed}
+use Rattle.pq_write.proofs.Room.{long_digits}
 use Rattle.pq_write.specs.declared.report.ReportNumbers.{ReportNumbers}
 use Rattle.pq_write.specs.Report.{report_text}
 
@@ -15,3 +18,10 @@ pub reported : (before one two three four five six all : List ℕ) (report : Rep
     → all ≡ before ++ report_text report
 unfolding report_text
 reported before one two three four five six all report e1 e2 e3 e4 e5 e6 e7 = rw (e7, e6, e5, e4, e3, e2, e1) (simp append_assoc)
+
+-- behind a text and a number there is room for what is left
+pub number_left : (before after : Roomed ℕ) (text : List ℕ) (n left : ℕ) → n < 2 ^ 64 → after.items ≡ before.items ++ (text ++ decimal n) → after.room ≡ before.room
+    → length before.items + (length text + 20 + left) ≤ before.room → length after.items + left ≤ after.room
+number_left before after text n left small items same room =
+    let longer : length after.items ≡ length before.items + length (text ++ decimal n) = ap length items ∙ length-append before.items (text ++ decimal n) in
+    omega (arith, length-append text (decimal n), long_digits n small)
