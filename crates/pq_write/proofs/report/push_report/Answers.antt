@@ -1,26 +1,20 @@
 use Rattle.std.proofs.Common.{◌++◌, codes, decimal, ap, ◌∙◌, arith}
-use Rattle.pq_write.proofs.Reports.{number_left, reported}
+use Rattle.pq_write.proofs.Reports.{five_left, reported}
 use Rattle.pq_write.proofs.Room.{room_left, short_digits}
 use Rattle.pq_write.proofs.report.push_report.Goals as goal
 
 pub put_number-requires-6 : goal.put_number-requires-6
 put_number-requires-6 c =
-    let report = c.args.report in
-    let one = number_left c.args.out.now c.put_number.new.out (codes "// gates ") report.gates_in 134 (omega arith) c.put_number.ensures.items c.put_number.ensures.room (omega (arith, c.requires.room)) in
-    let two = number_left c.put_number.new.out c.put_number-2.new.out (codes " ") report.gates_out 113 (omega arith) c.put_number-2.ensures.items c.put_number-2.ensures.room (omega (arith, one)) in
-    let three = number_left c.put_number-2.new.out c.put_number-3.new.out (codes "\n// rounds ") report.rounds 82 (omega arith) c.put_number-3.ensures.items c.put_number-3.ensures.room (omega (arith, two)) in
-    let four = number_left c.put_number-3.new.out c.put_number-4.new.out (codes "\n// calls ") report.calls 52 (omega arith) c.put_number-4.ensures.items c.put_number-4.ensures.room (omega (arith, three)) in
-    let five = number_left c.put_number-4.new.out c.put_number-5.new.out (codes "\n// first fingers ") report.first_fingers 14 (omega arith) c.put_number-5.ensures.items c.put_number-5.ensures.room (omega (arith, four)) in
+    let five = five_left c.args.out.now c.put_number.new.out c.put_number-2.new.out c.put_number-3.new.out c.put_number-4.new.out c.put_number-5.new.out c.args.report (omega arith) (omega arith) (omega arith) (omega arith) (omega arith)
+    c.put_number.ensures.items c.put_number.ensures.room c.put_number-2.ensures.items c.put_number-2.ensures.room c.put_number-3.ensures.items c.put_number-3.ensures.room c.put_number-4.ensures.items c.put_number-4.ensures.room c.put_number-5.ensures.items c.put_number-5.ensures.room c.requires.room
+    in
     record { room = omega (arith, five, short_digits c.from.result (omega (arith, c.from.ensures))) }
 
 pub put-requires : goal.put-requires
 put-requires c =
-    let report = c.args.report in
-    let one = number_left c.args.out.now c.put_number.new.out (codes "// gates ") report.gates_in 134 (omega arith) c.put_number.ensures.items c.put_number.ensures.room (omega (arith, c.requires.room)) in
-    let two = number_left c.put_number.new.out c.put_number-2.new.out (codes " ") report.gates_out 113 (omega arith) c.put_number-2.ensures.items c.put_number-2.ensures.room (omega (arith, one)) in
-    let three = number_left c.put_number-2.new.out c.put_number-3.new.out (codes "\n// rounds ") report.rounds 82 (omega arith) c.put_number-3.ensures.items c.put_number-3.ensures.room (omega (arith, two)) in
-    let four = number_left c.put_number-3.new.out c.put_number-4.new.out (codes "\n// calls ") report.calls 52 (omega arith) c.put_number-4.ensures.items c.put_number-4.ensures.room (omega (arith, three)) in
-    let five = number_left c.put_number-4.new.out c.put_number-5.new.out (codes "\n// first fingers ") report.first_fingers 14 (omega arith) c.put_number-5.ensures.items c.put_number-5.ensures.room (omega (arith, four)) in
+    let five = five_left c.args.out.now c.put_number.new.out c.put_number-2.new.out c.put_number-3.new.out c.put_number-4.new.out c.put_number-5.new.out c.args.report (omega arith) (omega arith) (omega arith) (omega arith) (omega arith)
+    c.put_number.ensures.items c.put_number.ensures.room c.put_number-2.ensures.items c.put_number-2.ensures.room c.put_number-3.ensures.items c.put_number-3.ensures.room c.put_number-4.ensures.items c.put_number-4.ensures.room c.put_number-5.ensures.items c.put_number-5.ensures.room c.requires.room
+    in
     let six = room_left c.put_number-5.new.out c.put_number-6.new.out (codes "\n// phase " ++ decimal c.from.result) 1 c.put_number-6.ensures.items c.put_number-6.ensures.room (omega (arith, five, short_digits c.from.result (omega (arith, c.from.ensures)))) in
     record { room = omega (arith, six) }
 
