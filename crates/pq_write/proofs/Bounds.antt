@@ -127,7 +127,7 @@ is_short p well =
       tail = omega (arith, well.entries);
     }
 
-length_header : length header ≡ 36
+pub length_header : length header ≡ 36
 unfolding header
 length_header = refl
 
@@ -144,13 +144,3 @@ pub print_short : (p : ProgramView) → WellFormed p → length (print p) < 2 ^ 
 print_short p well =
     let short = is_short p well in
     omega (arith, length_print p, short.qregs, short.cregs, short.gates, short.tail)
-
--- how many bytes are behind the lines of each kind in the text of a program
-abbrev pub behind_classical : ProgramView → ℕ
-behind_classical p = length (flat_map (gate_line p.qregs) p.gates) + length (flat_map (tail_line p.qregs p.cregs) p.tail)
-
-abbrev pub behind_quantum : ProgramView → ℕ
-behind_quantum p = length (flat_map (register_line (codes "creg")) p.cregs) + behind_classical p
-
-abbrev pub behind_header : ProgramView → ℕ
-behind_header p = length (flat_map (register_line (codes "qreg")) p.qregs) + behind_quantum p

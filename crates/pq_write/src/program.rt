@@ -1,5 +1,5 @@
 ghost use Rattle.std.specs.Prelude.{◌≡◌, ◌≤◌, ◌+◌, ◌++◌, length, IfOk, map};
-ghost use Rattle.pq_text.specs.Print.{print};
+ghost use Rattle.pq_text.specs.Print.{header, print};
 ghost use Rattle.pq_text.specs.WellFormed.{WellFormed};
 ghost use Rattle.pq_read.specs.Environment.{register_view, view};
 ghost use Rattle.pq_write.specs.Report.{report_text};
@@ -19,7 +19,18 @@ use std::alloc::Global;
 /// The two lines that each text begins with.
 pub const HEADER: &[u8] = b"OPENQASM 2.0;\ninclude \"qelib1.inc\";\n";
 
+// Appends the two lines that each text begins with.
+#[tactic(auto, unfolding(pq_text::specs::Print::header))]
+fn push_header(out: &mut ByteList)
+    requires room { HasRoomFor out.old header }
+    ensures items { out.new.items ≡ out.old.items ++ header }
+    ensures room { out.new.room ≡ out.old.room }
+{
+    put(out, HEADER);
+}
+
 // Appends the text of a program, with the texts of its places.
+#[tactic(auto, using(crate::proofs::Room::length_append, crate::proofs::Bounds::length_print, crate::proofs::Bounds::length_header))]
 fn push_program(out: &mut ByteList, program: &Program, wires: &Places, bits: &Places)
     requires well_formed { WellFormed (view program.now) }
     requires wires { wires.now ≡ map register_view program.now.qregs.items }
@@ -28,7 +39,7 @@ fn push_program(out: &mut ByteList, program: &Program, wires: &Places, bits: &Pl
     ensures items { out.new.items ≡ out.old.items ++ print (view program.now) }
     ensures room { out.new.room ≡ out.old.room }
 {
-    put(out, HEADER);
+    push_header(out);
     push_register_lines(out, b"qreg", program.qregs.as_slice());
     push_register_lines(out, b"creg", program.cregs.as_slice());
     push_gate_lines(out, wires, program.gates.as_slice());
