@@ -127,7 +127,7 @@ is_short p well =
       tail = omega (arith, well.entries);
     }
 
-length_header : length header ≡ 36
+pub length_header : length header ≡ 36
 unfolding header
 length_header = refl
 

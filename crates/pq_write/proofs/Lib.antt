@@ -13,3 +13,4 @@ pub mod Listing
 pub mod Bounds
 pub mod Texts
 pub mod Reports
+pub mod Room

@@ -5,3 +5,4 @@ pub use Rattle.pq_read.specs.Environment
 pub use Rattle.pq_read.specs.Reads
 pub mod Table
 pub mod Report
+pub mod Room

@@ -11,6 +11,7 @@ mod program;
 mod register;
 mod report;
 mod tail;
+mod text;
 
 pub use laws::texts_are_read_back;
 pub use number::push_number;

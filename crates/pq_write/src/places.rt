@@ -5,12 +5,22 @@ ghost use Rattle.pq_text.specs.WellFormed.{IsRegister};
 ghost use Rattle.pq_read.specs.Environment.{register_view};
 ghost use Rattle.pq_write.specs.Table.{IsTableOf};
 
-use crate::register::push_indexed;
+use crate::number::push_number;
 use pq_io::OutOfMemory;
 use pq_limits::{MAX_NAME, MAX_PLACES};
 use pq_read::Register;
 use std::alloc::Global;
 use std::marker::Model;
+
+// Appends the text `NAME[INDEX]`.
+fn push_indexed(out: &mut Vec<u8>, name: &[u8], index: u32) -> Result<(), OutOfMemory>
+    ensures { OnOk result (out.new.items ≡ out.old.items ++ indexed name.now index) }
+{
+    out.extend_from_slice(name)?;
+    push_number(out, b"[", u64::from(index))?;
+    out.push(b']')?;
+    Ok(())
+}
 
 // Where a text lies among the bytes.
 #[derive(Clone, Copy)]

@@ -1,7 +1,7 @@
-ghost use Rattle.std.specs.Prelude.{◌≡◌, ◌++◌, IfOk, OnOk};
+ghost use Rattle.std.specs.Prelude.{◌≡◌, ◌++◌, ◌+◌, ◌≤◌, length, IfOk};
 ghost use Rattle.pq_write.specs.Report.{report_text};
 
-use crate::number::push_number;
+use crate::text::{put, put_number};
 use pq_io::{ByteList, OutOfMemory};
 use std::alloc::Global;
 
@@ -29,27 +29,30 @@ pub struct ReportNumbers {
 
 /// How many bytes the text of a report has at most: 60 for the words, 20 for each of the five long numbers, and 3
 /// for the phase.
-pub const REPORT_ROOM: usize = 163;
+pub const REPORT_ROOM: u64 = 163;
 
-/// Appends the text of a report.
-pub fn push_report(out: &mut Vec<u8>, report: &ReportNumbers) -> Result<(), OutOfMemory>
-    ensures { OnOk result (out.new.items ≡ out.old.items ++ report_text report.now) }
+/// Appends the text of a report. There is room for the longest.
+#[tactic(auto, using(crate::proofs::Room::length_append, crate::proofs::Room::long_digits, crate::proofs::Room::short_digits))]
+pub fn push_report(out: &mut ByteList, report: ReportNumbers)
+    requires room { length out.old.items + REPORT_ROOM ≤ out.old.room }
+    ensures items { out.new.items ≡ out.old.items ++ report_text report }
+    ensures room { out.new.room ≡ out.old.room }
 {
-    push_number(out, b"// gates ", report.gates_in)?;
-    push_number(out, b" ", report.gates_out)?;
-    push_number(out, b"\n// rounds ", report.rounds)?;
-    push_number(out, b"\n// calls ", report.calls)?;
-    push_number(out, b"\n// first fingers ", report.first_fingers)?;
-    push_number(out, b"\n// phase ", u64::from(report.phase))?;
-    out.extend_from_slice(b"\n")?;
-    Ok(())
+    put_number(out, b"// gates ", report.gates_in);
+    put_number(out, b" ", report.gates_out);
+    put_number(out, b"\n// rounds ", report.rounds);
+    put_number(out, b"\n// calls ", report.calls);
+    put_number(out, b"\n// first fingers ", report.first_fingers);
+    put_number(out, b"\n// phase ", u64::from(report.phase));
+    put(out, b"\n");
 }
 
-/// The text of a report: five lines, each a comment. Room for it is taken once.
+/// The text of a report: five lines, each a comment. Room for the longest is taken once.
 pub fn write_report(alloc: Global, report: &ReportNumbers) -> Result<ByteList, OutOfMemory>
-    ensures { IfOk result (λ text. text.items ≡ report_text report.now) }
+    ensures text { IfOk result (λ text. text.items ≡ report_text report.now) }
+    ensures room { IfOk result (λ text. text.room ≡ REPORT_ROOM) }
 {
-    let mut out = Vec::with_capacity(alloc, REPORT_ROOM)?;
-    push_report(&mut out, report)?;
-    Ok(ByteList::of(out))
+    let mut out = ByteList::with_room(alloc, REPORT_ROOM)?;
+    push_report(&mut out, *report);
+    Ok(out)
 }

@@ -154,7 +154,7 @@ fn a_report_is_five_lines_within_its_room(rt: HostRuntime) -> Result<(), AllocEr
     let written = write_report(rt.alloc(), &RUN)?;
     assert!(rt; written.as_slice() == RUN_WRITTEN);
     let longest = write_report(rt.alloc(), &LONGEST)?;
-    assert_eq!(rt; longest.as_slice().len(), REPORT_ROOM);
+    assert_eq!(rt; longest.as_slice().len() as u64, REPORT_ROOM);
     Ok(())
 }
 

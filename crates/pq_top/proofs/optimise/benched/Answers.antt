@@ -13,7 +13,7 @@ returns-clause-text g c =
     IfOk-weaker c.write_report.result _ _
     (λ text is. bench_text_by c.args.omega c.args.seed c.args.qubits c.args.gates _ text.items program program.gates.items finished
     c.report_on-report.result refl (ap length c.as_slice.ensures) c.in_ok-program.ensures.generated c.in_ok-program.ensures.well_formed
-    left.opt left.same left.local left.bound left.first_fingers c.report_on-report.ensures is) c.write_report.ensures
+    left.opt left.same left.local left.bound left.first_fingers c.report_on-report.ensures is) c.write_report.ensures.text
 
 pub returns-clause-log : goal.returns-clause-log
 returns-clause-log g c =

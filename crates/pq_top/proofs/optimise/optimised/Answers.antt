@@ -8,4 +8,4 @@ returns-clause-text g c = λ options text read.
     let left = c.in_ok-finished.ensures in
     opt_text_by c.args.omega _ text _ options c.args.program c.args.program.gates.items finished c.report_on-report.result
     refl (ap length c.as_slice.ensures) c.requires.formed read left.opt left.same left.local
-    left.bound left.first_fingers c.report_on-report.ensures c.in_ok-text.ensures
+    left.bound left.first_fingers c.report_on-report.ensures c.in_ok-text.ensures.text

@@ -4,15 +4,14 @@ use Rattle.pq_read.specs.Environment.{view, register_view, item_view}
 use Rattle.pq_write.proofs.Listing.{assembled}
 use Rattle.pq_write.proofs.program.push_program.Goals as goal
 
-pub push_gate_lines-requires : goal.push_gate_lines-requires
-push_gate_lines-requires c = rw (c.requires.wires, c.as_slice-3.ensures) c.requires.well_formed.circuit
+pub push_gate_lines-requires-clause-circuit : goal.push_gate_lines-requires-clause-circuit
+push_gate_lines-requires-clause-circuit c = rw (c.requires.wires, c.as_slice-3.ensures) c.requires.well_formed.circuit
 
-pub returns : goal.returns
-unfolding header
-returns c =
+pub returns-clause-items : goal.returns-clause-items
+returns-clause-items c =
     let p = view c.args.program.now in
     let none = c.args.out.now.items in
-    let one = c.extend_from_slice.new.self.items in
+    let one = c.push_header.new.out.items in
     let two = c.push_register_lines.new.out.items in
     let three = c.push_register_lines-2.new.out.items in
     let four = c.push_gate_lines.new.out.items in
@@ -22,15 +21,15 @@ returns c =
     let items = c.as_slice-3.ensures in
     let entries = c.as_slice-4.ensures in
     let quantum_lines : two ≡ one ++ flat_map (register_line (codes "qreg")) p.qregs =
-    c.in_ok-push_register_lines.ensures ∙ ap (λ rs. one ++ flat_map (register_line (codes "qreg")) (map register_view rs)) c.as_slice.ensures
+    c.push_register_lines.ensures.items ∙ ap (λ rs. one ++ flat_map (register_line (codes "qreg")) (map register_view rs)) c.as_slice.ensures
     in
     let classical_lines : three ≡ two ++ flat_map (register_line (codes "creg")) p.cregs =
-    c.in_ok-push_register_lines-2.ensures ∙ ap (λ rs. two ++ flat_map (register_line (codes "creg")) (map register_view rs)) c.as_slice-2.ensures
+    c.push_register_lines-2.ensures.items ∙ ap (λ rs. two ++ flat_map (register_line (codes "creg")) (map register_view rs)) c.as_slice-2.ensures
     in
     let gate_lines : four ≡ three ++ flat_map (gate_line p.qregs) p.gates =
-    c.in_ok-push_gate_lines.ensures ∙ (λ i. three ++ flat_map (gate_line (wires i)) (items i))
+    c.push_gate_lines.ensures.items ∙ (λ i. three ++ flat_map (gate_line (wires i)) (items i))
     in
     let tail_lines : five ≡ four ++ flat_map (tail_line p.qregs p.cregs) p.tail =
-    c.in_ok-push_tail_lines.ensures ∙ (λ i. four ++ flat_map (tail_line (wires i) (bits i)) (map item_view (entries i)))
+    c.push_tail_lines.ensures.items ∙ (λ i. four ++ flat_map (tail_line (wires i) (bits i)) (map item_view (entries i)))
     in
-    assembled none one two three four five header _ _ _ _ c.in_ok-extend_from_slice.ensures.items quantum_lines classical_lines gate_lines tail_lines
+    assembled none one two three four five header _ _ _ _ c.push_header.ensures.items quantum_lines classical_lines gate_lines tail_lines

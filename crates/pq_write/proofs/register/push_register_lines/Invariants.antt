@@ -4,5 +4,7 @@ use Rattle.pq_read.specs.Environment.{register_view}
 use Rattle.pq_write.proofs.register.push_register_lines.Given as goal
 
 abbrev pub invariant-loop-register : goal.invariant-loop-register
-invariant-loop-register l =
-    l.out.items ≡ l.initial.out.items ++ flat_map (register_line l.word) (take l.register-index (map register_view l.registers))
+invariant-loop-register l = record {
+  items : l.out.items ≡ l.initial.out.items ++ flat_map (register_line l.word) (take l.register-index (map register_view l.registers));
+  room : l.out.room ≡ l.initial.out.room;
+}
