@@ -1,7 +1,7 @@
 -- The numbers of the settings are in their ranges.
-use Rattle.std.proofs.Common.{◌≡◌, ◌∙◌, ◌≤◌, ◌<◌, ℕ, Bool, true, false, cond, not, List, [], ◌∷◌, Option, Some, None, Result, Ok, Err, refl, sym, ap, arith, codes}
+use Rattle.std.proofs.Common.{◌≡◌, ◌∙◌, ◌≤◌, ◌<◌, subst, ℕ, Bool, true, false, cond, not, List, [], ◌∷◌, Option, Some, None, Result, Ok, Err, refl, sym, ap, arith, codes}
 use Rattle.std.specs.Option.{option_map_or}
-use Rattle.std.specs.Prelude.{is_some}
+use Rattle.std.specs.Prelude.{is_some, IfOk}
 use Rattle.std.specs.Str.Parse.{digits_value}
 use Rattle.std.proofs.lemmas.Bool.{leb-true}
 use Rattle.clap.specs.Words.{Row, Text, first_of, matches_of, takes}
@@ -68,3 +68,25 @@ settings_in_range command rows h = go command h
     go Check e = omega_in Check e
     go Gen e = (qubits_in Gen e refl, gates_in Gen e)
     go Bench e = (omega_in Bench e, workers_in Bench e, qubits_in Bench e refl, gates_in Bench e)
+
+-- what words ask for is in its ranges
+by_fault : (rows : List Row) (command : Command) (o : Option UsageFault) → first_fault command rows ≡ o → IfOk (option_map_or Err o (Ok (settings_of command rows))) IsInRange
+by_fault rows command None none = settings_in_range command rows none
+by_fault rows command (Some fault) is = tt
+
+by_command : (rows : List Row) (o : Option Command) → IfOk (option_map_or (settings_or_fault rows) o (Err fault.Command)) IsInRange
+by_command rows None = tt
+by_command rows (Some command) = by_fault rows command (first_fault command rows) refl
+
+by_word : (rows : List Row) (o : Option Text)
+    → IfOk (option_map_or (λ word. option_map_or (settings_or_fault rows) (command_of word) (Err fault.Command)) o (Err fault.Command)) IsInRange
+by_word rows None = tt
+by_word rows (Some word) = by_command rows (command_of word)
+
+by_words : (rows : List Row) (taken : Bool) → IfOk (cond taken (asked_by rows) (Err fault.Words)) IsInRange
+by_words rows true = by_word rows (first_of (codes "command") rows)
+by_words rows false = tt
+
+pub asked_in_range : (words : List Text) (wanted : Settings) → asked words ≡ Ok wanted → IsInRange wanted
+unfolding asked
+asked_in_range words wanted is = subst (λ (r : Result Settings UsageFault). IfOk r IsInRange) is (by_words (matches_of app words) (takes app words))

@@ -243,3 +243,39 @@ fn a_command_has_its_numbers_or_the_default_ones(rt: HostRuntime) -> Result<(), 
     }
     Ok(())
 }
+
+#[test]
+fn a_fault_says_what_is_wrong(rt: HostRuntime) -> Result<(), Fail> {
+    let cases: [(WordsError, &str); 7] = [
+        (
+            WordsError::Usage(UsageFault::Words),
+            "the words aren't a command with options",
+        ),
+        (
+            WordsError::Usage(UsageFault::Command),
+            "there is no such command",
+        ),
+        (
+            WordsError::Usage(UsageFault::Unwanted(Switch::DropBarriers)),
+            "the command takes no --drop-barriers",
+        ),
+        (
+            WordsError::Usage(UsageFault::Missing(Switch::Seed)),
+            "the command needs --seed",
+        ),
+        (
+            WordsError::Usage(UsageFault::Number(Switch::Gates)),
+            "--gates isn't 1 to 20 decimal digits",
+        ),
+        (
+            WordsError::Usage(UsageFault::Range(Switch::Omega)),
+            "--omega is outside its range",
+        ),
+        (WordsError::OutOfMemory, "out of memory"),
+    ];
+    for (fault, text) in cases {
+        let shown = format!(in rt.alloc(); "{fault}")?;
+        assert_eq!(rt; shown.as_str(), text);
+    }
+    Ok(())
+}

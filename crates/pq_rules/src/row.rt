@@ -4,6 +4,7 @@ ghost use Rattle.pq_rules.specs.Row.{IsSound};
 
 use pq_gate::{Gate, GateList};
 use std::marker::Model;
+use thiserror::Error;
 
 /// A row that nobody has checked: on so many wires, numbered from 0, the pattern is to be replaced by
 /// the replacement.
@@ -15,21 +16,25 @@ pub struct RawRow {
 }
 
 /// Why a raw row is no row.
-#[derive(Clone, Copy, Debug, PartialEq, Eq, Drop)]
+#[derive(Clone, Copy, Debug, PartialEq, Eq, Drop, Error)]
 pub enum RowFault {
     /// There aren't 1 to 3 wires, or a gate names another wire, or a CX has one wire twice, or the
     /// pattern leaves out a wire.
+    #[error("there aren't 1 to 3 wires, or the gates don't fit them")]
     Wires,
 
     /// The pattern has more than 8 gates.
+    #[error("the pattern has more than 8 gates")]
     TooLong,
 
     /// The replacement has at least as many gates as the pattern.
+    #[error("the replacement isn't shorter than the pattern")]
     NotShorter,
 
     /// The matrices differ by more than a phase. This is the first pair of basis states, in ascending
     /// order of `from`, then of `to`, such that no single phase makes the entries of all pairs up to
     /// and with it agree. Bit w of a basis state's number is the value of wire w.
+    #[error("the matrices differ by more than a phase at the basis states {from} and {to}")]
     Differs { from: u8, to: u8 },
 }
 
@@ -93,5 +98,35 @@ impl Row {
         ensures sound { IsSound self.now }
     {
         self.raw.wires
+    }
+}
+
+#[cfg(test)]
+mod tests {
+    use super::*;
+    use std::test::Fail;
+
+    #[test]
+    fn a_fault_says_what_is_wrong(rt: HostRuntime) -> Result<(), Fail> {
+        let cases: [(RowFault, &str); 4] = [
+            (
+                RowFault::Wires,
+                "there aren't 1 to 3 wires, or the gates don't fit them",
+            ),
+            (RowFault::TooLong, "the pattern has more than 8 gates"),
+            (
+                RowFault::NotShorter,
+                "the replacement isn't shorter than the pattern",
+            ),
+            (
+                RowFault::Differs { from: 2, to: 7 },
+                "the matrices differ by more than a phase at the basis states 2 and 7",
+            ),
+        ];
+        for (fault, text) in cases {
+            let shown = format!(in rt.alloc(); "{fault}")?;
+            assert_eq!(rt; shown.as_str(), text);
+        }
+        Ok(())
     }
 }

@@ -7,4 +7,5 @@ mod Statuses
 mod Working
 mod Pieces
 mod OneOutput
+mod Promising
 mod Logging

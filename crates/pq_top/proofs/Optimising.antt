@@ -2,6 +2,7 @@
 use Rattle.std.proofs.Common.{◌≡◌, ℕ, ◌+◌, ◌-◌, ◌*◌, ◌<◌, ◌≤◌, Result, Ok, Err, List, [], ◌++◌, length, ap, sym, subst, ◌∙◌, arith}
 use Rattle.std.specs.Prelude.{All, IfOk}
 use Rattle.pq_gate.specs.declared.gate.Gate.{Gate}
+use Rattle.pq_gate.specs.Circuit.{IsCircuit}
 use Rattle.pq_gate.specs.Matrix.{Same}
 use Rattle.pq_text.specs.Program.{ProgramView, places_of}
 use Rattle.pq_text.specs.WellFormed.{WellFormed}
@@ -67,14 +68,15 @@ left_at_end (Ok finished) rules w gates old log loop least rules_are sound way n
     left_by_opt w gates finished (omega arith) (subst (All IsSound) rules_are sound)
     (led_to_end builtin_rows w gates old log loop finished way none gates_are counts)
 
-still_well_formed : (p : ProgramView) (gates : List Gate) (phase : ℕ) → WellFormed p → length gates ≤ length p.gates →
-    KeepsMatrix p.gates gates phase → WellFormed (with_gates p gates)
-still_well_formed p gates phase formed shorter keeps = record {
+-- the program with these gates, no more than its own
+pub still_well_formed : (p : ProgramView) (gates : List Gate) → WellFormed p → length gates ≤ length p.gates →
+    IsCircuit (places_of p.qregs) gates → WellFormed (with_gates p gates)
+still_well_formed p gates formed shorter circuit = record {
   registers = formed.registers;
   names = formed.names;
   qubits = formed.qubits;
   bits = formed.bits;
-  circuit = (keeps.same (places_of p.qregs) formed.circuit).right;
+  circuit = circuit;
   gates = omega (arith, shorter, formed.gates);
   tail = formed.tail;
   entries = formed.entries;
@@ -87,9 +89,9 @@ pub formed_with : (p : Program) (given : List Gate) (finished : Finished) → gi
     length finished.gates.items ≤ length given → KeepsMatrix given finished.gates.items finished.phase →
     WellFormed (view (record { qregs = p.qregs; cregs = p.cregs; gates = finished.gates; tail = p.tail }))
 formed_with p given finished is formed shorter keeps =
-    still_well_formed (view p) finished.gates.items finished.phase formed
+    still_well_formed (view p) finished.gates.items formed
     (subst (λ (gates : List Gate). length finished.gates.items ≤ length gates) is shorter)
-    (subst (λ (gates : List Gate). KeepsMatrix gates finished.gates.items finished.phase) is keeps)
+    ((subst (λ (gates : List Gate). KeepsMatrix gates finished.gates.items finished.phase) is keeps).same (places_of (view p).qregs) formed.circuit).right
 
 -- what rounds leave of the gates of a well formed program
 pub optimised_by : (w : ℕ) (program : ProgramView) (given : List Gate) (finished : Finished) → given ≡ program.gates → WellFormed program →

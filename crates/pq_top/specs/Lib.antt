@@ -30,5 +30,6 @@ pub mod Request
 pub mod Outputs
 pub mod Notes
 pub mod Answers
+pub mod Promise
 pub mod Work
 pub mod Log

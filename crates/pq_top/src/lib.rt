@@ -29,7 +29,8 @@ mod tests;
 
 use crate::answer::{Answer, work};
 pub use crate::laws::{
-    commands_have_one_output, sure_devices_never_fail, workers_change_no_output,
+    commands_have_one_output, opt_keeps_its_promise, sure_devices_never_fail,
+    workers_change_no_output,
 };
 use crate::notes::note;
 use pq_command::UsageFault;
