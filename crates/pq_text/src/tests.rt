@@ -19,4 +19,6 @@ fn lower_case_words_outside_the_language_are_names(rt: HostRuntime) {
     for (name, lawful) in names {
         assert!(rt; is_lawful_name(name) == lawful, "at {name:?}");
     }
+    assert!(rt; is_among(&["a", "bc"], b"bc"));
+    assert!(rt; !is_among(&["a", "bc"], b"b"));
 }
