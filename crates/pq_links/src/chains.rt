@@ -1,10 +1,10 @@
 //! The neighbours on wires of gates that stand in slots. A gate comes or goes without moving any other.
-ghost use Rattle.std.specs.Prelude.{◌≡◌, ◌≢◌, ℕ, ◌+◌, ◌*◌, ◌<◌, ◌≤◌, Bool, true, false, [], length, slice_set, vec_len, vec_capacity, IfOk};
+ghost use Rattle.std.specs.Prelude.{◌≡◌, ◌≢◌, ℕ, ◌+◌, ◌*◌, ◌<◌, ◌≤◌, true, false, [], length, slice_set, vec_len, vec_capacity, IfOk};
 ghost use Rattle.pq_gate.specs.Commuting.{Touches};
 ghost use Rattle.pq_links.specs.Wires.{wire_of};
 ghost use Rattle.pq_links.specs.Places.{gate_at};
 ghost use Rattle.pq_links.specs.Links.{AreLinked, IsLastOn};
-ghost use Rattle.pq_links.specs.Slots.{free_slot, spread, AreSlots, AreNext, ArePrevious, AreChained, IsGap};
+ghost use Rattle.pq_links.specs.Slots.{free_slot, spread, AreSlots, AreChained, IsGap};
 ghost use Rattle.pq_links.specs.Leading.{doubled, AreSpread};
 
 use crate::links::{FAR, Links, NO_WIRE, Sides, lead_both, next_on, side_on};

@@ -3,7 +3,7 @@ ghost use Rattle.pq_gate.specs.Commuting.{Touches};
 ghost use Rattle.pq_gate.specs.Ports.{last_wire};
 ghost use Rattle.pq_links.specs.Wires.{wire_of};
 ghost use Rattle.pq_links.specs.Places.{gate_at};
-ghost use Rattle.pq_links.specs.Links.{bucket_of, side_at, IsNextOn, IsLastIn, IsLastOn, AreLinked, AreBefore, AreHeads};
+ghost use Rattle.pq_links.specs.Links.{bucket_of, side_at, IsNextOn, IsLastOn, AreLinked, AreBefore, AreHeads};
 ghost use Rattle.pq_links.specs.Slots.{AreNext};
 ghost use Rattle.pq_links.specs.Leading.{AreLed};
 
