@@ -1,10 +1,8 @@
 -- What `opt` promises of its text and its output.
-use Rattle.std.proofs.Common.{◌≡◌, ℕ, ◌+◌, ◌-◌, ◌*◌, ◌≤◌, Result, Ok, Err, Option, None, Some, List, ◌++◌, length, refl, sym, ap, subst, ◌∙◌, arith}
+use Rattle.std.proofs.Common.{◌≡◌, ℕ, ◌+◌, ◌-◌, ◌*◌, ◌≤◌, Result, Ok, Err, Option, Some, List, ◌++◌, length, refl, sym, ap, subst, ◌∙◌, arith}
 use Rattle.std.proofs.lemmas.List.{append_cancel_left}
-use Rattle.std.proofs.Math.Option.{some-injective}
 use Rattle.std.specs.Io.KnownBytes.{Appends}
 use Rattle.pq_limits.specs.declared.TheConstants.{MAX_INPUT}
-use Rattle.pq_limits.specs.Limits.{IsOmega}
 use Rattle.pq_gate.specs.declared.gate.Gate.{Gate}
 use Rattle.pq_gate.specs.Matrix.{Same}
 use Rattle.pq_io.specs.Whole.{TakesAll, ReadsToEnd}
