@@ -5,11 +5,11 @@ use Rattle.std.specs.Option.{option_map_or}
 use Rattle.std.specs.Prelude.{is_some, slice_get}
 use Rattle.clap.specs.Words.{Row, Text, first_of}
 use Rattle.pq_command.specs.declared.fault.Switch.{Switch}
-use Rattle.pq_command.specs.declared.fault.Switch.TheVariants.{Omega, Workers, DropBarriers, Seed, Qubits, Gates}
+use Rattle.pq_command.specs.declared.fault.Switch.TheVariants.{Omega, Workers, Seed, Qubits, Gates}
 use Rattle.pq_command.specs.declared.fault.UsageFault.{UsageFault}
 use Rattle.pq_command.specs.declared.fault.UsageFault.TheVariants as fault
 use Rattle.pq_command.specs.declared.settings.Command.{Command}
-use Rattle.pq_command.specs.Asked.{IsFaultless, asked_by, command_of, first_fault, given, is_flag, is_needed, is_taken, settings_of, settings_or_fault, switch_fault, switches, text_fault}
+use Rattle.pq_command.specs.Asked.{IsFaultless, asked_by, command_of, first_fault, given, is_flag, is_needed, is_taken, settings_of, switch_fault, switches, text_fault}
 
 -- where no item gives anything, each gives nothing
 none_first : {X Y : Type 0} (h : X → Option Y) (xs : List X) → slice_get (filter_map h xs) 0 ≡ None → All (λ x. h x ≡ None) xs

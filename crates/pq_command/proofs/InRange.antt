@@ -1,24 +1,24 @@
 -- The numbers of the settings are in their ranges.
-use Rattle.std.proofs.Common.{◌≡◌, ◌∙◌, ◌≤◌, ◌<◌, subst, ℕ, Bool, true, false, cond, not, List, [], ◌∷◌, Option, Some, None, Result, Ok, Err, refl, sym, ap, arith, codes}
+use Rattle.std.proofs.Common.{◌≡◌, ◌≤◌, subst, ℕ, Bool, true, false, cond, not, List, Option, Some, None, Result, Ok, Err, refl, arith, codes}
 use Rattle.std.specs.Option.{option_map_or}
-use Rattle.std.specs.Prelude.{is_some, IfOk}
+use Rattle.std.specs.Prelude.{IfOk}
 use Rattle.std.specs.Str.Parse.{digits_value}
 use Rattle.std.proofs.lemmas.Bool.{leb-true}
 use Rattle.clap.specs.Words.{Row, Text, first_of, matches_of, takes}
 use Rattle.clap.proofs.WalkLemmas.{both}
 use Rattle.pq_command.specs.declared.fault.Switch.{Switch}
-use Rattle.pq_command.specs.declared.fault.Switch.TheVariants.{Omega, Workers, DropBarriers, Seed, Qubits, Gates}
+use Rattle.pq_command.specs.declared.fault.Switch.TheVariants.{Omega, Workers, Qubits, Gates}
 use Rattle.pq_command.specs.declared.fault.UsageFault.{UsageFault}
 use Rattle.pq_command.specs.declared.fault.UsageFault.TheVariants as fault
 use Rattle.pq_command.specs.declared.settings.Command.{Command}
 use Rattle.pq_command.specs.declared.settings.Command.TheVariants.{Opt, Check, Gen, Bench}
 use Rattle.pq_command.specs.declared.settings.Settings.{Settings}
 use Rattle.pq_command.specs.CommandLine.{app}
-use Rattle.pq_command.specs.Asked.{IsFaultless, asked, asked_by, command_of, first_fault, given, greatest, is_flag, is_in_range, is_needed, is_number, is_taken, least, number_or, settings_of, settings_or_fault, switch_fault, switches, text_fault}
+use Rattle.pq_command.specs.Asked.{IsFaultless, asked, asked_by, command_of, first_fault, given, greatest, is_flag, is_in_range, is_needed, is_number, least, number_or, settings_of, settings_or_fault, switch_fault, text_fault}
 use Rattle.pq_limits.specs.Limits.{AreQubits, AreWorkers, IsBetween, IsOmega}
 use Rattle.pq_limits.specs.declared.TheConstants.{DEFAULT_OMEGA, DEFAULT_WORKERS, MAX_GATES}
 use Rattle.pq_command.specs.Ranges.{IsInRange}
-use Rattle.pq_command.proofs.Faultless.{gates_faultless, no_switch_fault, omega_faultless, qubits_faultless, seed_faultless, workers_faultless}
+use Rattle.pq_command.proofs.Faultless.{gates_faultless, no_switch_fault, omega_faultless, qubits_faultless, workers_faultless}
 
 -- a text without a fault has a number in the range
 text_between : (switch : Switch) (text : Text) → is_flag switch ≡ false → text_fault switch text ≡ None → IsBetween (least switch) (greatest switch) (digits_value 10 text)

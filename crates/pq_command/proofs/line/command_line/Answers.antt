@@ -1,9 +1,7 @@
-use Rattle.std.proofs.Common.{◌≡◌, ◌∙◌, ap, ap₂, codes, true}
+use Rattle.std.proofs.Common.{◌≡◌, ◌∙◌, ap₂, codes}
 use Rattle.std.proofs.lemmas.Result.{IfOk-weaker}
-use Rattle.clap.specs.Words.{App, Rule, Text, app_of, rule_of, with_rule, new_app}
-use Rattle.clap.specs.Simple.{app_of_fields, on_top}
-use Rattle.pq_command.specs.CommandLine.{app, bare, flag_rule, option_rule, word_rule, name_of}
-use Rattle.pq_command.specs.declared.fault.Switch.TheVariants.{Omega, Workers, DropBarriers, Seed, Qubits, Gates}
+use Rattle.clap.specs.Words.{app_of, with_rule}
+use Rattle.pq_command.specs.CommandLine.{bare, word_rule}
 use Rattle.pq_command.proofs.line.command_line.Goals as goal
 
 pub returns : goal.returns

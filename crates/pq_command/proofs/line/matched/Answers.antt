@@ -1,7 +1,6 @@
-use Rattle.std.proofs.Common.{◌≡◌, ◌∙◌, ap, map, sym}
+use Rattle.std.proofs.Common.{◌∙◌, ap, map, sym}
 use Rattle.std.specs.String.{string_bytes}
 use Rattle.clap.specs.Words.{fault_of, is_simple, is_simple_and_free, matches_of}
-use Rattle.pq_command.specs.CommandLine.{app}
 use Rattle.pq_command.proofs.Taken.{words_taken, words_untaken}
 use Rattle.pq_command.proofs.line.matched.Goals as goal
 
