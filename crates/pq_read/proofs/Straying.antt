@@ -1,14 +1,15 @@
 -- A barrier that goes on as no barrier does is refused whatever follows.
-use Rattle.std.proofs.Common.{◌≡◌, ℕ, zero, suc, ◌≤◌, Bool, true, false, ◌&&◌, cond, List, [], ◌∷◌, ◌++◌, length, Result, Ok, Err, codes, bytes_eq, nat_lt, refl, sym, ap, ◌∙◌, arith}
+use Rattle.std.proofs.Common.{◌≡◌, ℕ, zero, suc, ◌≤◌, Bool, true, false, ◌&&◌, cond, List, [], ◌∷◌, ◌++◌, length, Result, Ok, Err, codes, bytes_eq, nat_lt, min, Option, Some, None, refl, sym, ap, ◌∙◌, arith}
 use Rattle.std.specs.List.{list_all}
 use Rattle.std.specs.Char.{is_ascii_digit}
 use Rattle.std.proofs.lemmas.Bool.{false≢true}
+use Rattle.std.proofs.lemmas.Bool.Decides.{nat_tests}
 use Rattle.std.proofs.lemmas.Slice.Eq.{bytes_eq-Decides}
 use Rattle.pq_lex.specs.declared.token.Form.TheVariants.{Word, Number, Semicolon, Comma, LeftBracket, RightBracket}
 use Rattle.pq_lex.specs.Token.{TokenView}
 use Rattle.pq_text.specs.Program.{RegisterView, TailView}
 use Rattle.pq_text.specs.Program as view
-use Rattle.pq_read.specs.declared.refusal.Kind.TheVariants.{Syntax, IndexOutOfRange}
+use Rattle.pq_read.specs.declared.refusal.Kind.TheVariants.{Syntax, UnknownRegister, IndexOutOfRange}
 use Rattle.pq_read.specs.declared.refusal.Refusal.{Refusal}
 use Rattle.pq_read.specs.declared.program.Options.{Options}
 use Rattle.pq_read.specs.declared.argument.Span.{Span}
@@ -17,11 +18,11 @@ use Rattle.pq_read.specs.declared.word.FirstWord.TheVariants as words
 use Rattle.pq_read.specs.declared.known.Expected.{Expected}
 use Rattle.pq_read.specs.declared.known.Expected.TheVariants.{Name, AfterName, Index, AfterIndex, AfterBracket, Nothing}
 use Rattle.pq_read.specs.Faults.{◌>>=◌, Reading, refused, unexpected, is_form, head, demanded, integer_at, value_of}
-use Rattle.pq_read.specs.Words.{first_word}
-use Rattle.pq_read.specs.Environment.{Env}
-use Rattle.pq_read.specs.Arguments.{register_of, whole, single, indexed_at, argument_at}
+use Rattle.pq_read.specs.Words.{is_name, first_word}
+use Rattle.pq_read.specs.Environment.{span_from, Env}
+use Rattle.pq_read.specs.Arguments.{known, register_of, whole, single, indexed_at, argument_at}
 use Rattle.pq_read.specs.After.{adjoined_below, argument_tokens, barrier_wires, within_tail, barrier_at, with_tail, put, statement_by, header_at, statement_at, piece_at}
-use Rattle.pq_read.specs.Expected.{after_token, expected_after}
+use Rattle.pq_read.specs.Expected.{named, is_index, after_token, expected_after}
 use Rattle.pq_read.proofs.Circuits.{neither}
 use Rattle.pq_read.proofs.Names.{and_both}
 use Rattle.pq_read.proofs.Pieces.{is_closed}
@@ -29,11 +30,6 @@ use Rattle.pq_read.proofs.Pieces.{is_closed}
 -- a fault that is the same whatever follows
 abbrev pub IsKnown : {B : Type 0} → (List TokenView → Result B Refusal) → Type 0
 IsKnown read = (fault : Refusal) × ((later : List TokenView) → read later ≡ Err fault)
-
--- `Nothing` stays
-nothing_stays : (ts : List TokenView) → expected_after Nothing ts ≡ Nothing
-nothing_stays [] = refl
-nothing_stays (t ∷ ts) = nothing_stays ts
 
 abbrev is_nothing : Expected → Bool
 is_nothing Nothing = true
@@ -52,12 +48,12 @@ body regs wires ts a = cond (is_form Comma (head a.1)) (barrier_wires regs (adjo
 
 -- shorter tokens that stray are refused
 abbrev Shorter : {B : Type 0} → List RegisterView → (List ℕ × List TokenView → Result B Refusal) → ℕ → Type 0
-Shorter regs end n = (us : List TokenView) (wires : List ℕ) → length us ≤ n → expected_after Name us ≡ Nothing → is_closed us ≡ false → IsKnown (λ later. barrier_wires regs wires 0 (us ++ later) >>= end)
+Shorter regs end n = (us : List TokenView) (wires : List ℕ) → length us ≤ n → expected_after regs Name us ≡ Nothing → is_closed us ≡ false → IsKnown (λ later. barrier_wires regs wires 0 (us ++ later) >>= end)
 
 -- behind an argument: a comma, or a fault
 by_comma : {B : Type 0} (regs : List RegisterView) (end : List ℕ × List TokenView → Result B Refusal) → Closes end → (n : ℕ) → Shorter regs end n → (a : Argument) (skipped : List TokenView) (wires : List ℕ) (d : TokenView) (us : List TokenView)
     → ((later : List TokenView) (next : List ℕ) → barrier_wires regs next (argument_tokens a) (skipped ++ d ∷ (us ++ later)) ≡ barrier_wires regs next 0 (us ++ later))
-    → length us ≤ n → is_form Semicolon d ≡ false → is_closed us ≡ false → (is_form Comma d ≡ true → expected_after Name us ≡ Nothing)
+    → length us ≤ n → is_form Semicolon d ≡ false → is_closed us ≡ false → (is_form Comma d ≡ true → expected_after regs Name us ≡ Nothing)
     → IsKnown (λ later. body regs wires (skipped ++ d ∷ (us ++ later)) (a, d ∷ (us ++ later)) >>= end)
 unfolding body
 by_comma regs end closes n shorter a skipped wires d us skips le no_end unclosed strays = by (is_form Comma d) refl where
@@ -80,41 +76,47 @@ skip_four regs next b i c d ts = refl
 
 -- behind an index
 closing_strays : {B : Type 0} (regs : List RegisterView) (end : List ℕ × List TokenView → Result B Refusal) → Closes end → (n : ℕ) → Shorter regs end n → (span : Span) (t : TokenView) (index : ℕ) (b i : TokenView) (wires : List ℕ) (us : List TokenView)
-    → length us ≤ n → is_closed us ≡ false → expected_after AfterIndex us ≡ Nothing
+    → length us ≤ n → is_closed us ≡ false → expected_after regs AfterIndex us ≡ Nothing
     → IsKnown (λ later. ((demanded RightBracket (us ++ later) >>= λ c. (let r : Reading Argument = Ok (single span t index, c.1) in r)) >>= body regs wires (b ∷ i ∷ (us ++ later))) >>= end)
 closing_strays regs end closes n shorter span t index b i wires [] le unclosed strays = other AfterIndex refl strays
 closing_strays regs end closes n shorter span t index b i wires (c ∷ us) le unclosed strays = by (is_form RightBracket c) refl strays where
-  by_next : (vs : List TokenView) → length vs ≤ n → is_closed vs ≡ false → expected_after AfterBracket vs ≡ Nothing → IsKnown (λ later. body regs wires (b ∷ i ∷ c ∷ (vs ++ later)) (single span t index, vs ++ later) >>= end)
+  by_next : (vs : List TokenView) → length vs ≤ n → is_closed vs ≡ false → expected_after regs AfterBracket vs ≡ Nothing → IsKnown (λ later. body regs wires (b ∷ i ∷ c ∷ (vs ++ later)) (single span t index, vs ++ later) >>= end)
   by_next [] le unclosed strays = other AfterBracket refl strays
   by_next (d ∷ vs) le unclosed strays =
       let both = neither _ _ unclosed in
       by_comma regs end closes n shorter (single span t index) (b ∷ i ∷ c ∷ []) wires d vs (λ later next. skip_four regs next b i c d (vs ++ later)) (omega arith) both.0 both.1
-      (λ comma. ap (λ s. expected_after (cond s Name Nothing) vs) (sym comma) ∙ strays)
+      (λ comma. ap (λ s. expected_after regs (cond s Name Nothing) vs) (sym comma) ∙ strays)
 
-  by : (s : Bool) → is_form RightBracket c ≡ s → expected_after (cond s AfterBracket Nothing) us ≡ Nothing
+  by : (s : Bool) → is_form RightBracket c ≡ s → expected_after regs (cond s AfterBracket Nothing) us ≡ Nothing
       → IsKnown (λ later. (((let d : Reading TokenView = cond s (Ok (c, us ++ later)) (Err (unexpected c)) in d) >>= λ c. (let r : Reading Argument = Ok (single span t index, c.1) in r)) >>= body regs wires (b ∷ i ∷ c ∷ (us ++ later))) >>= end)
   by true is strays = by_next us (omega arith) (neither _ _ unclosed).1 strays
   by false is strays = (unexpected c, λ later. refl)
 
+-- a value that stops growing at a million is still below the size
+still_below : (value size : ℕ) → nat_lt value size ≡ true → nat_lt (min value 1000000) size ≡ true
+still_below value size h = grind (arith, nat_tests)
+
 -- behind a `[`
 index_strays : {B : Type 0} (regs : List RegisterView) (end : List ℕ × List TokenView → Result B Refusal) → Closes end → (n : ℕ) → Shorter regs end n → (span : Span) (t b : TokenView) (wires : List ℕ) (us : List TokenView)
-    → length us ≤ n → is_closed us ≡ false → expected_after Index us ≡ Nothing
+    → length us ≤ n → is_closed us ≡ false → expected_after regs (Index span) us ≡ Nothing
     → IsKnown (λ later. (indexed_at span t (us ++ later) >>= body regs wires (b ∷ (us ++ later))) >>= end)
 unfolding indexed_at integer_at
-index_strays regs end closes n shorter span t b wires [] le unclosed strays = other Index refl strays
+index_strays regs end closes n shorter span t b wires [] le unclosed strays = other (Index span) refl strays
 index_strays regs end closes n shorter span t b wires (i ∷ us) le unclosed strays = by (is_form Number i) strays where
-  by_size : (s : Bool) → expected_after AfterIndex us ≡ Nothing
+  by_size : (s : Bool) → nat_lt (value_of i) span.size ≡ s → expected_after regs (cond (nat_lt (min (value_of i) 1000000) span.size) AfterIndex Nothing) us ≡ Nothing
       → IsKnown (λ later. (((let r : Result ℕ Refusal = cond s (Ok (value_of i)) (Err (refused IndexOutOfRange i)) in r) >>= λ index. demanded RightBracket (us ++ later) >>= λ c. (let r : Reading Argument = Ok (single span t index, c.1) in r)) >>= body regs wires (b ∷ i ∷ (us ++ later))) >>= end)
-  by_size true strays = closing_strays regs end closes n shorter span t (value_of i) b i wires us (omega arith) (neither _ _ unclosed).1 strays
-  by_size false strays = (refused IndexOutOfRange i, λ later. refl)
+  by_size true is strays =
+      closing_strays regs end closes n shorter span t (value_of i) b i wires us (omega arith) (neither _ _ unclosed).1
+      (ap (λ s. expected_after regs (cond s AfterIndex Nothing) us) (sym (still_below (value_of i) span.size is)) ∙ strays)
+  by_size false is strays = (refused IndexOutOfRange i, λ later. refl)
 
-  by_digits : (s : Bool) → expected_after AfterIndex us ≡ Nothing
+  by_digits : (s : Bool) → expected_after regs (cond (s && nat_lt (min (value_of i) 1000000) span.size) AfterIndex Nothing) us ≡ Nothing
       → IsKnown (λ later. (((let r : Reading TokenView = cond s (Ok (i, us ++ later)) (Err (refused Syntax i)) in r) >>= λ i. (let r : Result ℕ Refusal = cond (nat_lt (value_of i.0) span.size) (Ok (value_of i.0)) (Err (refused IndexOutOfRange i.0)) in r)
       >>= λ index. demanded RightBracket i.1 >>= λ c. (let r : Reading Argument = Ok (single span t index, c.1) in r)) >>= body regs wires (b ∷ i ∷ (us ++ later))) >>= end)
-  by_digits true strays = by_size (nat_lt (value_of i) span.size) strays
+  by_digits true strays = by_size (nat_lt (value_of i) span.size) refl strays
   by_digits false strays = (refused Syntax i, λ later. refl)
 
-  by : (s : Bool) → expected_after (cond s AfterIndex Nothing) us ≡ Nothing
+  by : (s : Bool) → expected_after regs (cond (s && is_index span i) AfterIndex Nothing) us ≡ Nothing
       → IsKnown (λ later. (((let r : Reading TokenView = cond s (Ok (i, us ++ later)) (Err (unexpected i)) in r) >>= λ t. (let r : Reading TokenView = cond (list_all is_ascii_digit t.0.bytes) (Ok t) (Err (refused Syntax t.0)) in r))
       >>= λ i. (let r : Result ℕ Refusal = cond (nat_lt (value_of i.0) span.size) (Ok (value_of i.0)) (Err (refused IndexOutOfRange i.0)) in r)
       >>= λ index. demanded RightBracket i.1 >>= λ c. (let r : Reading Argument = Ok (single span t index, c.1) in r)) >>= body regs wires (b ∷ i ∷ (us ++ later)) >>= end)
@@ -123,33 +125,34 @@ index_strays regs end closes n shorter span t b wires (i ∷ us) le unclosed str
 
 -- behind a name
 name_strays : {B : Type 0} (regs : List RegisterView) (end : List ℕ × List TokenView → Result B Refusal) → Closes end → (n : ℕ) → Shorter regs end n → (span : Span) (t : TokenView) (wires : List ℕ) (us : List TokenView)
-    → length us ≤ n → is_closed us ≡ false → expected_after AfterName us ≡ Nothing
+    → length us ≤ n → is_closed us ≡ false → expected_after regs (AfterName span) us ≡ Nothing
     → IsKnown (λ later. ((let r : Reading Argument = cond (is_form LeftBracket (head (us ++ later))) (demanded LeftBracket (us ++ later) >>= λ b. indexed_at span t b.1) (Ok (whole span t, us ++ later)) in r) >>= body regs wires (us ++ later)) >>= end)
-name_strays regs end closes n shorter span t wires [] le unclosed strays = other AfterName refl strays
+name_strays regs end closes n shorter span t wires [] le unclosed strays = other (AfterName span) refl strays
 name_strays regs end closes n shorter span t wires (b ∷ us) le unclosed strays = by (is_form LeftBracket b) strays where
-  by : (s : Bool) → expected_after (cond s Index (cond (is_form Comma b) Name Nothing)) us ≡ Nothing
+  by : (s : Bool) → expected_after regs (cond s (Index span) (cond (is_form Comma b) Name Nothing)) us ≡ Nothing
       → IsKnown (λ later. ((let r : Reading Argument = cond s ((let d : Reading TokenView = cond s (Ok (b, us ++ later)) (Err (unexpected b)) in d) >>= λ b. indexed_at span t b.1) (Ok (whole span t, b ∷ (us ++ later))) in r) >>= body regs wires (b ∷ (us ++ later))) >>= end)
   by true strays = index_strays regs end closes n shorter span t b wires us (omega arith) (neither _ _ unclosed).1 strays
   by false strays =
       let both = neither _ _ unclosed in
       by_comma regs end closes n shorter (whole span t) [] wires b us (λ later next. skip_one regs next b (us ++ later)) (omega arith) both.0 both.1
-      (λ comma. ap (λ s. expected_after (cond s Name Nothing) us) (sym comma) ∙ strays)
+      (λ comma. ap (λ s. expected_after regs (cond s Name Nothing) us) (sym comma) ∙ strays)
 
 -- an argument
 argument_strays : {B : Type 0} (regs : List RegisterView) (end : List ℕ × List TokenView → Result B Refusal) → Closes end → (n : ℕ) → Shorter regs end n → (t : TokenView) (wires : List ℕ) (us : List TokenView)
-    → length us ≤ n → is_closed us ≡ false → expected_after (after_token Name t) us ≡ Nothing
+    → length us ≤ n → is_closed us ≡ false → expected_after regs (after_token regs Name t) us ≡ Nothing
     → IsKnown (λ later. barrier_wires regs wires 0 (t ∷ (us ++ later)) >>= end)
 unfolding barrier_wires argument_at body
 argument_strays regs end closes n shorter t wires us le unclosed strays = by (is_form Word t) strays where
-  by_register : (r : Result Span Refusal) → expected_after AfterName us ≡ Nothing
-      → IsKnown (λ later. ((r >>= λ span. (let r : Reading Argument = cond (is_form LeftBracket (head (us ++ later))) (demanded LeftBracket (us ++ later) >>= λ b. indexed_at span t b.1) (Ok (whole span t, us ++ later)) in r)) >>= body regs wires (us ++ later)) >>= end)
-  by_register (Ok span) strays = name_strays regs end closes n shorter span t wires us le unclosed strays
-  by_register (Err e) strays = (e, λ later. refl)
+  by_register : (s : Bool) (o : Option Span) → expected_after regs (named o) us ≡ Nothing
+      → IsKnown (λ later. (((let r : Result Span Refusal = cond s (known t o) (Err (refused Syntax t)) in r) >>= λ span. (let r : Reading Argument = cond (is_form LeftBracket (head (us ++ later))) (demanded LeftBracket (us ++ later) >>= λ b. indexed_at span t b.1) (Ok (whole span t, us ++ later)) in r)) >>= body regs wires (us ++ later)) >>= end)
+  by_register true (Some span) strays = name_strays regs end closes n shorter span t wires us le unclosed strays
+  by_register true None strays = (refused UnknownRegister t, λ later. refl)
+  by_register false o strays = (refused Syntax t, λ later. refl)
 
-  by : (s : Bool) → expected_after (cond s AfterName Nothing) us ≡ Nothing
+  by : (s : Bool) → expected_after regs (cond s (named (span_from 0 regs t.bytes)) Nothing) us ≡ Nothing
       → IsKnown (λ later. (((let d : Reading TokenView = cond s (Ok (t, us ++ later)) (Err (unexpected t)) in d)
       >>= λ t. register_of regs t.0 >>= λ span. (let r : Reading Argument = cond (is_form LeftBracket (head t.1)) (demanded LeftBracket t.1 >>= λ b. indexed_at span t.0 b.1) (Ok (whole span t.0, t.1)) in r)) >>= body regs wires (us ++ later)) >>= end)
-  by true strays = by_register (register_of regs t) strays
+  by true strays = by_register (is_name t.bytes) (span_from 0 regs t.bytes) strays
   by false strays = (unexpected t, λ later. refl)
 
 wires_stray : {B : Type 0} (regs : List RegisterView) (end : List ℕ × List TokenView → Result B Refusal) → Closes end → (n : ℕ) → Shorter regs end n
@@ -165,7 +168,7 @@ barrier_word false = refl
 end_closes : (qregs : List RegisterView) (tail : List TailView) → Closes {B = List TailView × List TokenView} (λ w. demanded Semicolon w.1 >>= λ e. within_tail tail (length w.0) e.0 >>= λ _. Ok (tail ++ view.Barrier w.0 ∷ [], e.1))
 end_closes qregs tail wires d l no_end = ap (λ b. (let r : Reading TokenView = cond b (Ok (d, l)) (Err (unexpected d)) in r) >>= λ e. within_tail tail (length wires) e.0 >>= λ _. (let r : Reading (List TailView) = Ok (tail ++ view.Barrier wires ∷ [], e.1) in r)) no_end
 
-pub barrier_strays : (options : Options) (E : Env) (t : TokenView) (us : List TokenView) → (E.header && bytes_eq (codes "barrier") t.bytes) ≡ true → is_closed us ≡ false → expected_after Name us ≡ Nothing
+pub barrier_strays : (options : Options) (E : Env) (t : TokenView) (us : List TokenView) → (E.header && bytes_eq (codes "barrier") t.bytes) ≡ true → is_closed us ≡ false → expected_after E.program.qregs Name us ≡ Nothing
     → IsKnown (λ later. piece_at options E (t ∷ (us ++ later)))
 unfolding piece_at statement_at barrier_at
 barrier_strays options E t us begins unclosed strays =

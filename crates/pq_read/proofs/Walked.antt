@@ -7,7 +7,7 @@ use Rattle.pq_lex.specs.declared.token.Form.TheVariants.{Semicolon, Missing, Mal
 use Rattle.pq_lex.specs.Token.{TokenView, number_of, is_last}
 use Rattle.pq_lex.specs.Lex.{Position, tokens, from_token}
 use Rattle.pq_lex.specs.Added.{extended, StaysMalformed}
-use Rattle.pq_text.specs.Program.{ProgramView}
+use Rattle.pq_text.specs.Program.{RegisterView, ProgramView}
 use Rattle.pq_read.specs.declared.refusal.Refusal.{Refusal}
 use Rattle.pq_read.specs.declared.refusal.ReadError.{ReadError}
 use Rattle.pq_read.specs.declared.refusal.ReadError.TheVariants as errors
@@ -35,7 +35,7 @@ pub record Walked (E : Env) (p q : Position) (long : Bool) (count : ℕ) (expect
   pub some : 1 ≤ length sure
   pub counted : count ≤ length sure
   pub named : long ≡ (E.header && bytes_eq (codes "barrier") (head sure).bytes)
-  pub stepped : expected ≡ expected_after Name (behind_first sure)
+  pub stepped : expected ≡ expected_after E.program.qregs Name (behind_first sure)
   pub unclosed : is_closed sure ≡ false
   pub inner : is_form Missing (head sure) ≡ false
   pub same : (more : List ℕ) → tokens (extended p more) ≡ sure ++ tokens (extended q more)
@@ -65,16 +65,16 @@ closed_append : (ts us : List TokenView) → is_closed ts ≡ false → is_close
 closed_append [] us h k = k
 closed_append (t ∷ ts) us h k = let both = neither _ _ h in (λ i. both.0 i || closed_append ts us both.1 k i)
 
-expected_more : (e : Expected) (us : List TokenView) (t : TokenView) → expected_after e (us ++ t ∷ []) ≡ after_token (expected_after e us) t
-expected_more e [] t = refl
-expected_more e (u ∷ us) t = expected_more (after_token e u) us t
+expected_more : (regs : List RegisterView) (e : Expected) (us : List TokenView) (t : TokenView) → expected_after regs e (us ++ t ∷ []) ≡ after_token regs (expected_after regs e us) t
+expected_more regs e [] t = refl
+expected_more regs e (u ∷ us) t = expected_more regs (after_token regs e u) us t
 
-expected_append : (e : Expected) (ts : List TokenView) (t : TokenView) → 1 ≤ length ts → expected_after e (behind_first (ts ++ t ∷ [])) ≡ after_token (expected_after e (behind_first ts)) t
-expected_append e [] t some = absurd (omega arith)
-expected_append e (u ∷ us) t some = expected_more e us t
+expected_append : (regs : List RegisterView) (e : Expected) (ts : List TokenView) (t : TokenView) → 1 ≤ length ts → expected_after regs e (behind_first (ts ++ t ∷ [])) ≡ after_token regs (expected_after regs e (behind_first ts)) t
+expected_append regs e [] t some = absurd (omega arith)
+expected_append regs e (u ∷ us) t some = expected_more regs e us t
 
 -- one more token
-pub walked_on : (E : Env) (p q r : Position) (t : TokenView) (long : Bool) (count next : ℕ) (expected later : Expected) → Walked E p q long count expected → is_last t.form ≡ false → is_form Semicolon t ≡ false → next ≤ count + 1 → later ≡ after_token expected t
+pub walked_on : (E : Env) (p q r : Position) (t : TokenView) (long : Bool) (count next : ℕ) (expected later : Expected) → Walked E p q long count expected → is_last t.form ≡ false → is_form Semicolon t ≡ false → next ≤ count + 1 → later ≡ after_token E.program.qregs expected t
     → ((more : List ℕ) → tokens (extended q more) ≡ from_token t (tokens (extended r more))) → Walked E p r long next later
 walked_on E p q r t long count next expected later w inner no_end counts steps same =
     let len : length (w.sure ++ t ∷ []) ≡ length w.sure + 1 = length-append w.sure (t ∷ []) in
@@ -84,7 +84,7 @@ walked_on E p q r t long count next expected later w inner no_end counts steps s
       some = omega arith;
       counted = (let b : count ≤ length w.sure = w.counted in omega arith);
       named = w.named ∙ sym (ap (λ (u : TokenView). E.header && bytes_eq (codes "barrier") u.bytes) first);
-      stepped = steps ∙ (ap (λ e. after_token e t) w.stepped ∙ sym (expected_append Name w.sure t w.some));
+      stepped = steps ∙ (ap (λ e. after_token E.program.qregs e t) w.stepped ∙ sym (expected_append E.program.qregs Name w.sure t w.some));
       unclosed = closed_append w.sure (t ∷ []) w.unclosed (ap (λ b. b || false) no_end);
       inner = ap (is_form Missing) first ∙ w.inner;
       same = λ more. w.same more
@@ -121,7 +121,7 @@ walked_enough E p q long count expected w is many options =
 
 -- a barrier that goes on as none does
 strays_by : (options : Options) (E : Env) (sure : List TokenView) → 1 ≤ length sure → (E.header && bytes_eq (codes "barrier") (head sure).bytes) ≡ true → is_closed sure ≡ false → is_form Missing (head sure) ≡ false
-    → expected_after Name (behind_first sure) ≡ Nothing → (fault : Refusal) × ((later : List TokenView) → read_tokens options E (sure ++ later) ≡ Err fault)
+    → expected_after E.program.qregs Name (behind_first sure) ≡ Nothing → (fault : Refusal) × ((later : List TokenView) → read_tokens options E (sure ++ later) ≡ Err fault)
 strays_by options E [] some begins unclosed inner strays = absurd (omega arith)
 strays_by options E (t ∷ us) some begins unclosed inner strays =
     let k = barrier_strays options E t us begins (neither _ _ unclosed).1 strays in

@@ -3,17 +3,19 @@ ghost use Rattle.pq_lex.specs.Lex.{tokens};
 ghost use Rattle.pq_read.specs.declared.program.Options.{Options};
 ghost use Rattle.pq_lex.specs.Token.{seen};
 ghost use Rattle.pq_read.specs.declared.known.Expected.TheVariants.{Nothing};
-ghost use Rattle.pq_read.specs.Expected.{after_token};
+ghost use Rattle.pq_read.specs.Expected.{is_index as is_index_of, after_token};
 ghost use Rattle.pq_read.specs.Begins.{position_of};
 ghost use Rattle.pq_read.specs.Drafts.{env_of};
 ghost use Rattle.pq_read.specs.Leads.{HasFault, FailsAt};
 
+use crate::argument::Span;
 use crate::begun::Begun;
 use crate::draft::Draft;
 use crate::program::Options;
 use crate::refusal::ReadError;
+use crate::registers::Registers;
 use crate::statements::read_pieces;
-use crate::token::has_form;
+use crate::token::{has_form, integer_value};
 use crate::word::is_text;
 use pq_lex::{Form, Lexer, Token};
 use pq_limits::MAX_GATES;
@@ -22,27 +24,44 @@ use std::alloc::Global;
 // A statement that is no barrier is read or refused by so many tokens.
 const ENOUGH: u32 = 16;
 
-// What a barrier has next.
+// Whether a number is an index of a register.
+fn is_index(token: &Token, span: Span) -> bool
+    ensures { result ≡ is_index_of span (seen token.now) }
+{
+    match integer_value(token.bytes) {
+        Some(index) => index < span.size,
+        None => false,
+    }
+}
+
+// What a barrier has next. Where there may be an index, it is one of the register that was named.
 #[derive(Clone, Copy)]
 enum Expected {
     Name,
-    AfterName,
-    Index,
+    AfterName(Span),
+    Index(Span),
     AfterIndex,
     AfterBracket,
     Nothing,
 }
 
 impl Expected {
-    // What it has behind a token.
-    fn after(self, token: &Token) -> Expected
-        ensures { result ≡ after_token self (seen token.now) }
+    // What it has behind a token, over these registers.
+    fn after(self, token: &Token, registers: &Registers) -> Expected
+        ensures { result ≡ after_token registers.now self (seen token.now) }
     {
         match self {
-            Expected::Name if has_form(token, Form::Word) => Expected::AfterName,
-            Expected::AfterName if has_form(token, Form::LeftBracket) => Expected::Index,
-            Expected::AfterName if has_form(token, Form::Comma) => Expected::Name,
-            Expected::Index if has_form(token, Form::Number) => Expected::AfterIndex,
+            Expected::Name if has_form(token, Form::Word) => match registers.find(token.bytes) {
+                Some(span) => Expected::AfterName(span),
+                None => Expected::Nothing,
+            },
+            Expected::AfterName(span) if has_form(token, Form::LeftBracket) => Expected::Index(
+                span,
+            ),
+            Expected::AfterName(_) if has_form(token, Form::Comma) => Expected::Name,
+            Expected::Index(span) if has_form(token, Form::Number) && is_index(token, span) => {
+                Expected::AfterIndex
+            }
             Expected::AfterIndex if has_form(token, Form::RightBracket) => Expected::AfterBracket,
             Expected::AfterBracket if has_form(token, Form::Comma) => Expected::Name,
             _ => Expected::Nothing,
@@ -64,7 +83,7 @@ fn begins_barrier(draft: &Draft, first: &Token) -> bool
 }
 
 /// Whether what is begun is refused whatever follows it: its tokens end with a malformed one, they are as many as a
-/// statement has that is no barrier, or they begin a barrier and go on as none does.
+/// statement has that is no barrier, or they begin a barrier and go on as none over these registers does.
 pub fn has_known_fault(draft: &Draft, begun: &Begun) -> bool
     requires column { 1 ≤ begun.now.column }
     requires fits { begun.now.line + (begun.now.column + length begun.now.bytes.items) < 2 ^ 32 }
@@ -94,7 +113,7 @@ pub fn has_known_fault(draft: &Draft, begun: &Begun) -> bool
             return false;
         }
         count = count.saturating_add(1);
-        expected = expected.after(&token);
+        expected = expected.after(&token, &draft.quantum);
     }
 }
 

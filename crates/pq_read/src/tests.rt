@@ -356,6 +356,8 @@ fn long_statements_are_read_as_short_ones(rt: HostRuntime) -> Result<(), OutOfMe
         ("barrier q", ",q", ";", (0, 0, 1)),
         ("barrier q", ",q", ",r;", (5, 4, 10_011)),
         ("barrier q", " q", ";", (3, 4, 11)),
+        ("barrier z", ",z", ";", (5, 4, 9)),
+        ("barrier q[2]", ",q[0]", ";", (7, 4, 11)),
         ("include \"", "a", "\";", (10, 4, 9)),
     ] {
         assert_eq!(rt; told_long(rt.alloc(), lines, more, 5000, end)?, Some(want));

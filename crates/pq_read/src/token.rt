@@ -153,8 +153,8 @@ pub fn goes_over(lexer: &mut Lexer, mark: Form) -> bool
     }
 }
 
-// The value of some digits, which stops growing at a million, or `None` where a byte is no digit.
-fn integer_value(digits: &[u8]) -> Option<u32>
+/// The value of some digits, which stops growing at a million, or `None` where a byte is no digit.
+pub fn integer_value(digits: &[u8]) -> Option<u32>
     ensures { MatchOption result
         (list_all is_ascii_digit digits.now ≡ false)
         (λ value. (list_all is_ascii_digit digits.now ≡ true) × (value ≡ min (digits_value 10 digits.now) GREAT)) }
