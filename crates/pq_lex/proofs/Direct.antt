@@ -79,7 +79,7 @@ first_then : (n : ℕ) (t : TokenView) (rest : ℕ → List TokenView) → first
 first_then zero t rest = refl
 first_then (suc n) t rest = refl
 
-first_front : (line column : ℕ) (text : List ℕ) → blank_length text ≡ 0 → first_form (lex 0 (record { line = line; column = column }) text) ≡ (front text).form
+pub first_front : (line column : ℕ) (text : List ℕ) → blank_length text ≡ 0 → first_form (lex 0 (record { line = line; column = column }) text) ≡ (front text).form
 unfolding lex front
 first_front line column [] none = refl
 first_front line column (b ∷ rest) none =

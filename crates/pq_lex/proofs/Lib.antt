@@ -9,3 +9,4 @@ pub mod Malformed
 pub mod Values
 pub mod Ending
 pub mod Lines
+pub mod Others

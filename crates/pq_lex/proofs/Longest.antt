@@ -37,7 +37,7 @@ number_of_parts text w f e some = record {
   formed = record { whole = w.bytes; fraction = f.bytes; exponent = e.bytes; is = refl; digits = w.formed; part = f.formed; power = e.formed; some = some };
 }
 
-number_taken : (text : List ℕ) → eqb (decimal_length text) 0 ≡ false → Takes IsNumber (decimal_length text + exponent_length (drop (decimal_length text) text)) text
+pub number_taken : (text : List ℕ) → eqb (decimal_length text) 0 ≡ false → Takes IsNumber (decimal_length text + exponent_length (drop (decimal_length text) text)) text
 number_taken text some =
     let w : Takes AreDigits (position_or_len is_no_digit text) text = digits_taken text in
     let f : Takes IsFraction (fraction_length w.later) w.later = fraction_taken w.later in

@@ -1,8 +1,9 @@
 -- What bytes added at the end of a text change: only what stands after a token that three bytes follow.
-use Rattle.std.specs.Prelude.{◌≡◌, ℕ, ◌+◌, ◌<◌, ◌≤◌, false, ◌==◌, List, [], ◌∷◌, ◌++◌, length, slice_index, if◌then◌else◌}
+use Rattle.std.specs.Prelude.{◌≡◌, ◌⊎◌, ℕ, ◌+◌, ◌<◌, ◌≤◌, true, false, ◌==◌, List, [], ◌∷◌, ◌++◌, length, drop, slice_index, if◌then◌else◌}
+use Rattle.std.specs.List.{position_or_len}
 use Rattle.pq_lex.specs.declared.token.Form.TheVariants.{Malformed}
-use Rattle.pq_lex.specs.Token.{TokenView, number_of}
-use Rattle.pq_lex.specs.Front.{blank_length, front}
+use Rattle.pq_lex.specs.Token.{TokenView, number_of, is_last}
+use Rattle.pq_lex.specs.Front.{is_newline, blank_length, front}
 use Rattle.pq_lex.specs.Lex.{placed, Position, moved, next_line, tokens, from_token}
 
 -- the same place, with more bytes at the end of the text
@@ -34,3 +35,12 @@ pub record StaysMalformed (p : Position) : Type 0 where
   pub token : TokenView
   pub malformed : token.form ≡ Malformed
   pub always : (more : List ℕ) → tokens (extended p more) ≡ token ∷ []
+
+-- Nothing tells yet what further bytes make of the front: it is one byte at most, or a `"` whose line doesn't end.
+abbrev pub IsUndecided : List ℕ → Type 0
+IsUndecided text = (length text < 2) ⊎ (slice_index text 0 ≡ 34) × (length (drop 1 text) ≤ position_or_len is_newline (drop 1 text))
+
+-- No token at the front is sure to stay: all of the text is skipped as one, or nothing is skipped, and the token is the
+-- last one or has fewer than three bytes behind it.
+abbrev pub IsUnsure : List ℕ → Type 0
+IsUnsure text = (blank_length text ≡ length text) ⊎ (blank_length text ≡ 0) × ((is_last (front text).form ≡ true) ⊎ (length text < (front text).count + 3))

@@ -1,8 +1,8 @@
 -- The tokens of a text with their places.
-use Rattle.std.specs.Prelude.{ℕ, zero, suc, ◌+◌, ◌==◌, List, [], ◌∷◌, take, drop, if◌then◌else◌}
+use Rattle.std.specs.Prelude.{ℕ, Bool, false, zero, suc, ◌+◌, ◌==◌, List, [], ◌∷◌, take, drop, if◌then◌else◌}
 use Rattle.pq_lex.specs.declared.token.Form.{Form}
 use Rattle.pq_lex.specs.declared.token.Form.TheVariants.{Missing}
-use Rattle.pq_lex.specs.Token.{TokenView, is_last}
+use Rattle.pq_lex.specs.Token.{TokenView, is_last, is_integer}
 use Rattle.pq_lex.specs.Front.{Front, fronted, blank_length, front}
 
 -- a line and a column, both counted from 1
@@ -59,6 +59,10 @@ from_token t later = t ∷ (if is_last t.form then [] else later)
 abbrev pub first_form : List TokenView → Form
 first_form [] = Missing
 first_form (t ∷ ts) = t.form
+
+abbrev pub begins_integer : List TokenView → Bool
+begins_integer [] = false
+begins_integer (t ∷ ts) = is_integer t
 
 -- the tokens of a whole text
 abbrev pub tokens_of : List ℕ → List TokenView

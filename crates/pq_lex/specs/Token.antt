@@ -1,5 +1,7 @@
 -- A token as contracts see it.
-use Rattle.std.specs.Prelude.{ℕ, Bool, true, false, List}
+use Rattle.std.specs.Prelude.{ℕ, Bool, true, false, ◌==◌, ◌&&◌, List}
+use Rattle.std.specs.List.{list_all}
+use Rattle.std.specs.Char.{is_ascii_digit}
 use Rattle.pq_lex.specs.declared.token.Form.{Form}
 use Rattle.pq_lex.specs.declared.token.Form.TheVariants.{Word, Number, Quoted, Semicolon, Comma, LeftParenthesis, RightParenthesis, LeftBracket, RightBracket, LeftBrace, RightBrace, Plus, Minus, Star, Slash, Caret, Arrow, DoubleEqual, Missing, Malformed}
 use Rattle.pq_lex.specs.declared.token.Token.{Token}
@@ -43,3 +45,7 @@ abbrev pub is_last : Form → Bool
 is_last Missing = true
 is_last Malformed = true
 is_last _ = false
+
+-- a number of digits alone
+abbrev pub is_integer : TokenView → Bool
+is_integer t = number_of t.form == number_of Number && list_all is_ascii_digit t.bytes

@@ -1,8 +1,9 @@
-ghost use Rattle.std.specs.Prelude.{◌≡◌, ◌+◌, ◌^◌, ◌<◌, ◌≤◌, length, take, drop, slice_index, min, true, IsTrue};
+ghost use Rattle.std.specs.Prelude.{◌≡◌, ◌==◌, ◌&&◌, ◌+◌, ◌^◌, ◌<◌, ◌≤◌, length, take, drop, slice_index, min, true, false, IsTrue};
 ghost use Rattle.std.specs.List.{position_or_len};
 ghost use Rattle.pq_lex.specs.Front.{is_outside_word, is_no_digit, is_newline, is_unquotable, blank_length, some_digits, exponent_digits, exponent_length, fraction_length, decimal_length, number_front, quoted_front, begins_with, mark_front, mark_byte, fronted, front, form_and_count};
 ghost use Rattle.pq_lex.specs.declared.token.Form.TheVariants.{Word, Number};
-ghost use Rattle.pq_lex.specs.Token.{is_last};
+ghost use Rattle.pq_lex.specs.Token.{is_last, number_of};
+ghost use Rattle.pq_lex.specs.Added.{IsUndecided};
 ghost use Rattle.std.specs.List.{list_all};
 ghost use Rattle.std.specs.Char.{is_ascii_digit};
 ghost use Rattle.std.specs.Str.Parse.{digits_value};
@@ -274,6 +275,7 @@ pub(crate) fn byte_of(mark: Form) -> u8
 #[inline(always)]
 pub(crate) fn word_front(text: &[u8]) -> usize
     ensures front { 1 ≤ result → fronted Word result ≡ front text.now }
+    ensures none { result ≡ 0 → (number_of (front text.now).form == number_of Word) ≡ false }
     ensures within { result ≤ length text.now }
 {
     match text {
@@ -305,6 +307,7 @@ fn valued_digits(text: &[u8]) -> (usize, u32)
 #[inline(always)]
 pub(crate) fn integer_front(text: &[u8]) -> (usize, u32)
     ensures front { 1 ≤ result.0 → fronted Number result.0 ≡ front text.now }
+    ensures none { result.0 ≡ 0 → (number_of (front text.now).form == number_of Number && list_all is_ascii_digit (take (front text.now).count text.now)) ≡ false }
     ensures digits { list_all is_ascii_digit (take result.0 text.now) ≡ true }
     ensures value { result.1 ≡ min (digits_value 10 (take result.0 text.now)) GREAT }
     ensures within { result.0 ≤ length text.now }
@@ -342,6 +345,7 @@ pub(crate) fn is_last(form: Form) -> bool
 pub(crate) fn is_decided(text: &[u8]) -> bool
     ensures some { result ≡ true → 2 ≤ length text.now }
     ensures line { result ≡ true → slice_index text.now 0 ≡ 34 → position_or_len is_newline (drop 1 text.now) < length (drop 1 text.now) }
+    ensures none { result ≡ false → IsUndecided text.now }
 {
     match text {
         [b'"', line @ ..] => line_bytes(line) < line.len(),

@@ -1,14 +1,14 @@
-ghost use Rattle.std.specs.Prelude.{◌≡◌, ◌⊎◌, true, false, ◌==◌, ℕ, ◌+◌, ◌^◌, ◌<◌, ◌≤◌, List, [], ◌∷◌, length, take, drop, min, IfSome, IfNone};
+ghost use Rattle.std.specs.Prelude.{◌≡◌, ◌≢◌, ◌⊎◌, true, false, ◌==◌, ℕ, ◌+◌, ◌^◌, ◌<◌, ◌≤◌, List, [], ◌∷◌, length, take, drop, min, IfSome, IfNone};
 ghost use Rattle.std.specs.List.{list_all};
 ghost use Rattle.std.specs.Char.{is_ascii_digit};
 ghost use Rattle.std.specs.Str.Parse.{digits_value};
-ghost use Rattle.pq_lex.specs.declared.token.Form.TheVariants.{Word, Number, Missing};
+ghost use Rattle.pq_lex.specs.declared.token.Form.TheVariants.{Word, Number, Missing, Malformed};
 ghost use Rattle.pq_lex.specs.Token.{seen, is_last, number_of};
 ghost use Rattle.pq_lex.specs.Front.{blank_length, fronted, front, mark_byte};
-ghost use Rattle.pq_lex.specs.Added.{extended, after_blank, StaysMalformed};
+ghost use Rattle.pq_lex.specs.Added.{extended, after_blank, StaysMalformed, IsUndecided, IsUnsure};
 ghost use Rattle.pq_lex.specs.Ends.{mode_after};
 ghost use Rattle.pq_lex.specs.declared.ends.Mode.TheVariants.{Code};
-ghost use Rattle.pq_lex.specs.Lex.{Position, tokens, moved, next_line, tokens_of, from_token, first_form};
+ghost use Rattle.pq_lex.specs.Lex.{Position, tokens, moved, next_line, tokens_of, from_token, first_form, begins_integer};
 
 use crate::front::{
     GREAT, blank_front, byte_of, integer_front, is_decided, is_last, is_next, token_front,
@@ -223,6 +223,7 @@ impl<'t> Lexer<'t> {
         ensures found { IfSome result (λ t. (more : List ℕ) → tokens (extended self.old more) ≡ from_token (seen t) (tokens (extended self.new more))) }
         ensures inner { IfSome result (λ t. is_last t.form ≡ false) }
         ensures stays { IfNone result ((more : List ℕ) → tokens (extended self.new more) ≡ tokens (extended self.old more)) }
+        ensures none { IfNone result (IsUnsure self.new.rest) }
     {
         self.skip_followed();
         let (form, count) = token_front(self.rest);
@@ -235,7 +236,8 @@ impl<'t> Lexer<'t> {
 
     /// Whether a malformed token comes next whatever bytes are added to the text.
     pub fn is_malformed(&self) -> bool
-        ensures { result ≡ true → StaysMalformed self.now }
+        ensures stays { result ≡ true → StaysMalformed self.now }
+        ensures none { result ≡ false → (blank_length self.now.rest ≢ 0) ⊎ (IsUndecided self.now.rest ⊎ ((number_of (front self.now.rest).form == number_of Malformed) ≡ false)) }
     {
         if !is_decided(self.rest) || blank_front(self.rest) != 0 {
             return false;
@@ -262,36 +264,40 @@ impl<'t> Lexer<'t> {
     }
 
     /// The next token where it is a word.
+    #[tactic(auto, using(crate::proofs::Others::word_other))]
     #[inline(always)]
     pub fn word(&mut self) -> Option<Token<'t>>
         ensures found { IfSome result (λ t. tokens self.old ≡ from_token (seen t) (tokens self.new)) }
         ensures form { IfSome result (λ t. t.form ≡ Word) }
+        ensures other { IfNone result ((number_of (first_form (tokens self.old)) == number_of Word) ≡ false) }
         ensures stays { IfNone result (tokens self.new ≡ tokens self.old) }
     {
         self.skip_blanks();
-        let count = word_front(self.rest);
-        if count == 0 {
+        let bytes = word_front(self.rest);
+        if bytes == 0 {
             None
         } else {
-            Some(self.take(Form::Word, count))
+            Some(self.take(Form::Word, bytes))
         }
     }
 
     /// The next token and its value, which stops growing at a million, where it is an integer.
+    #[tactic(auto, using(crate::proofs::Others::integer_other))]
     #[inline(always)]
     pub fn integer(&mut self) -> Option<(Token<'t>, u32)>
         ensures found { IfSome result (λ x. tokens self.old ≡ from_token (seen x.0) (tokens self.new)) }
         ensures form { IfSome result (λ x. x.0.form ≡ Number) }
         ensures digits { IfSome result (λ x. list_all is_ascii_digit x.0.bytes.now ≡ true) }
         ensures value { IfSome result (λ x. x.1 ≡ min (digits_value 10 x.0.bytes.now) GREAT) }
+        ensures other { IfNone result (begins_integer (tokens self.old) ≡ false) }
         ensures stays { IfNone result (tokens self.new ≡ tokens self.old) }
     {
         self.skip_blanks();
-        let (count, value) = integer_front(self.rest);
-        if count == 0 {
+        let (digits, value) = integer_front(self.rest);
+        if digits == 0 {
             None
         } else {
-            Some((self.take(Form::Number, count), value))
+            Some((self.take(Form::Number, digits), value))
         }
     }
 

@@ -11,7 +11,7 @@ pub returns-in_default : goal.returns-in_default
 returns-in_default c = λ is.
     let place = c.at-lexer.ensures ∙ (λ i. record { rest = c.as_slice.ensures.value i; line = c.args.begun.now.line; column = c.args.begun.now.column }) in
     malformed_first (env_of c.args.draft.now) (position_of c.args.begun.now) c.sure.new.self
-    (λ more. c.in_default.ensures.stays more ∙ ap (λ (p : Position). tokens (extended p more)) place) (c.is_malformed.ensures is)
+    (λ more. c.in_default.ensures.stays more ∙ ap (λ (p : Position). tokens (extended p more)) place) (c.is_malformed.ensures.stays is)
 
 pub tokens-init : goal.tokens-init
 tokens-init c =
@@ -28,7 +28,7 @@ returns-then-count-ge-ENOUGH c = λ _.
 pub returns-in_default-sure : goal.returns-in_default-sure
 returns-in_default-sure c = λ is.
     walked_malformed (env_of c.args.draft.now) (position_of c.args.begun.now) c.tokens.lexer c.sure-in-tokens.new.self c.begins_barrier-long.result c.tokens.count c.tokens.expected c.tokens.invariant
-    c.in_default-sure.ensures.stays (c.is_malformed-in_default-sure.ensures is)
+    c.in_default-sure.ensures.stays (c.is_malformed-in_default-sure.ensures.stays is)
 
 pub tokens-preserved : goal.tokens-preserved
 tokens-preserved c =

@@ -5,8 +5,8 @@ use Rattle.pq_lex.specs.Added.{StaysMalformed}
 use Rattle.pq_lex.proofs.Malformed.{stays_malformed}
 use Rattle.pq_lex.proofs.lexer.Lexer.is_malformed.Goals as goal
 
-pub returns : goal.returns
-returns c = λ equal.
+pub returns-clause-stays : goal.returns-clause-stays
+returns-clause-stays c = λ equal.
     let rest : List ℕ = c.self.inside.rest.now in
     let count : c.blank_front.result ≡ blank_length rest = c.blank_front.ensures.count in
     let yes : c.is_decided.result ≡ true = c.if-not-is_decided.false in
