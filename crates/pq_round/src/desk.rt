@@ -24,11 +24,7 @@ pub struct Desk {
 impl Desk {
     /// A desk with room for so many gates, at most 2,048, in each list. Its spare list is the one that is left from the job
     /// before, and only where there is none a new one.
-    pub fn reserve(
-        alloc: Global,
-        room: u32,
-        left: Option<GateList>,
-    ) -> Result<Desk, OutOfMemory>
+    pub fn reserve(alloc: Global, room: u32, left: Option<GateList>) -> Result<Desk, OutOfMemory>
         requires small { room ≤ MAX_SEGMENT }
         requires left { IfSome left (IsSpare room) }
         ensures { IfOk result (HasRoomFor room) }
