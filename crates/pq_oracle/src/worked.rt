@@ -1,4 +1,4 @@
-ghost use Rattle.std.specs.Prelude.{◌≡◌, ◌≤◌, []};
+ghost use Rattle.std.specs.Prelude.{◌≡◌, ◌≤◌, [], cond, Some, None};
 ghost use Rattle.pq_oracle.specs.Ora.{Ora};
 ghost use Rattle.pq_oracle.specs.Outcomes.{WorkedView};
 
@@ -16,20 +16,22 @@ use std::marker::Model;
 pub struct Worked<'r> {
     ticket: u64,
     input: GateList,
-    output: GateList,
+
+    // what the oracle left, or None where that is the input
+    output: Option<GateList>,
     outcome: Outcome,
     rules: &'r Rules,
 }
 
 impl<'r> Model for Worked<'r> {
-    ghost use Rattle.pq_oracle.specs.Outcomes.{WorkedView, answer_of};
+    ghost use Rattle.pq_oracle.specs.Outcomes.{WorkedView, answer_of, left_of};
     ghost use Rattle.pq_oracle.specs.Ora.{Ora};
 
     ghost Value = { WorkedView };
 
-    ghost view = { λ a. record { ticket = a.ticket; input = a.input.items; answer = answer_of a.output.items a.outcome; rules = a.rules.now } };
+    ghost view = { λ a. record { ticket = a.ticket; input = a.input.items; answer = answer_of (left_of a.input a.output) a.outcome; rules = a.rules.now } };
 
-    ghost invariant = { λ a. Ora a.rules.now a.input.items (answer_of a.output.items a.outcome) };
+    ghost invariant = { λ a. Ora a.rules.now a.input.items (answer_of (left_of a.input a.output) a.outcome) };
 }
 
 impl<'r> Worked<'r> {
@@ -46,39 +48,48 @@ impl<'r> Worked<'r> {
         Worked {
             ticket,
             input,
-            output: seg.into_held(),
+            output: Some(seg.into_held()),
             outcome,
             rules,
         }
     }
 
-    /// Works the segment, whose gates are those of `input`, and leaves it empty for the next ones: the output is moved out
-    /// of it, and the empty list `room`, which has at least the segment's room, takes its place. It takes no memory.
+    /// Works the segment, whose gates are those of `input`, and leaves it empty for the next ones. The output of an improved
+    /// segment is moved out of it, and the empty list `spare`, which has at least the segment's room, takes its place; where
+    /// nothing was improved, `spare` is handed back. It takes no memory.
     pub fn of_lent(
         rules: &'r Rules,
         ticket: u64,
         input: GateList,
         seg: &mut Seg,
-        room: GateList,
-    ) -> Worked<'r>
+        spare: GateList,
+    ) -> (Worked<'r>, Option<GateList>)
         requires gates { seg.old.items ≡ input.items }
-        requires empty { room.items ≡ [] }
-        requires enough { seg.old.room ≤ room.room }
-        ensures ticket { result.ticket ≡ ticket }
-        ensures input { result.input ≡ input.items }
-        ensures rules { result.rules ≡ rules.entry.now }
-        ensures oracle { Ora result.rules result.input result.answer }
+        requires empty { spare.items ≡ [] }
+        requires enough { seg.old.room ≤ spare.room }
+        ensures ticket { result.0.ticket ≡ ticket }
+        ensures input { result.0.input ≡ input.items }
+        ensures rules { result.0.rules ≡ rules.entry.now }
+        ensures oracle { Ora result.0.rules result.0.input result.0.answer }
+        ensures spare { result.1 ≡ cond result.0.answer.improved None (Some spare) }
         ensures emptied { seg.new.items ≡ [] }
         ensures room { seg.new.room ≡ seg.old.room }
     {
         let outcome = rewrite_all(rules, seg);
-        Worked {
+        let (output, spare) = if outcome.improved {
+            (Some(seg.take_held(spare)), None)
+        } else {
+            seg.clear();
+            (None, Some(spare))
+        };
+        let worked = Worked {
             ticket,
             input,
-            output: seg.take_held(room),
+            output,
             outcome,
             rules,
-        }
+        };
+        (worked, spare)
     }
 
     /// The number under which the segment was handed out.
@@ -100,7 +111,7 @@ impl<'r> Worked<'r> {
         ensures output { result.now ≡ self.now.answer.gates }
         ensures oracle { Ora self.now.rules self.now.input self.now.answer }
     {
-        self.output.as_slice()
+        self.output.as_ref().unwrap_or(&self.input).as_slice()
     }
 
     /// Whether there was a redex.

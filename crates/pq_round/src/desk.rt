@@ -1,7 +1,7 @@
-ghost use Rattle.std.specs.Prelude.{◌≡◌, ◌≤◌, [], length, IfOk};
+ghost use Rattle.std.specs.Prelude.{◌≡◌, ◌≤◌, [], length, cond, Some, None, IfOk, IfSome};
 ghost use Rattle.pq_limits.specs.declared.TheConstants.{MAX_SEGMENT};
 ghost use Rattle.pq_round.specs.Results.{IsResultOf};
-ghost use Rattle.pq_round.specs.Desks.{HasRoomFor};
+ghost use Rattle.pq_round.specs.Desks.{HasRoomFor, IsSpare};
 
 use pq_array::Cells;
 use pq_gate::GateList;
@@ -17,23 +17,28 @@ pub struct Desk {
     /// For the copy of the gates that go in.
     pub input: GateList,
 
-    /// For the segment's next gates: those that it has now are moved into the result.
-    pub next: GateList,
+    /// For the segment's next gates, where those that it has now are moved into the result.
+    pub spare: GateList,
 }
 
 impl Desk {
-    /// A desk with room for so many gates, at most 2,048, in each list.
-    pub fn reserve(alloc: Global, room: u32) -> Result<Desk, OutOfMemory>
-        requires { room ≤ MAX_SEGMENT }
+    /// A desk with room for so many gates, at most 2,048, in each list. Its spare list is the one that is left from the job
+    /// before, and only where there is none a new one.
+    pub fn reserve(alloc: Global, room: u32, left: Option<GateList>) -> Result<Desk, OutOfMemory>
+        requires small { room ≤ MAX_SEGMENT }
+        requires left { IfSome left (IsSpare room) }
         ensures { IfOk result (HasRoomFor room) }
     {
         let input = GateList::with_room(alloc, room)?;
-        let next = GateList::with_room(alloc, room)?;
-        Ok(Desk { input, next })
+        let spare = match left {
+            Some(spare) => spare,
+            None => GateList::with_room(alloc, room)?,
+        };
+        Ok(Desk { input, spare })
     }
 
     /// Gives the gates at these places to the oracle, under this ticket, in a segment that is empty before and afterwards.
-    /// It takes no memory.
+    /// The spare list is left where nothing was improved. It takes no memory.
     pub fn work<'r>(
         self,
         seg: &mut Seg,
@@ -41,21 +46,22 @@ impl Desk {
         places: &[u64],
         rules: &'r Rules,
         ticket: u64,
-    ) -> Worked<'r>
+    ) -> (Worked<'r>, Option<GateList>)
         requires empty { seg.old.items ≡ [] }
         requires fits { length places.now ≤ seg.old.room }
         requires room { HasRoomFor seg.old.room self }
-        ensures result { IsResultOf cells.now places.now rules.entry.now ticket result }
+        ensures result { IsResultOf cells.now places.now rules.entry.now ticket result.0 }
+        ensures left { result.1 ≡ cond result.0.answer.improved None (Some self.spare) }
         ensures emptied { seg.new.items ≡ [] }
         ensures kept { seg.new.room ≡ seg.old.room }
     {
-        let Desk { mut input, next } = self;
+        let Desk { mut input, spare } = self;
         for place in places {
             if let Some(gate) = cells.gate_at(*place) {
                 input.push_kept(gate);
                 seg.push(gate);
             }
         }
-        Worked::of_lent(rules, ticket, input, seg, next)
+        Worked::of_lent(rules, ticket, input, seg, spare)
     }
 }

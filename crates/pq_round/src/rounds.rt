@@ -25,9 +25,9 @@ pub struct Round<'r> {
 
 /// Works the jobs of a board by so many workers, 1 to 64, for which it was opened. Each claims tickets until none is
 /// left. It takes the room of its one segment before its first claim, and before each claim that of the copy of the input,
-/// of the output and of the result; it calls the gate after the claim and when the result is made. Each place of a job
-/// holds a gate, and a job has at most 2 * Omega places. Omega is 2 to 1,024. No more threads are started than there are
-/// jobs.
+/// of the result, and of a spare list of gates unless it has one still, which only an improved segment uses up; it calls
+/// the gate after the claim and when the result is made. Each place of a job holds a gate, and a job has at most 2 * Omega
+/// places. Omega is 2 to 1,024. No more threads are started than there are jobs.
 ///
 /// There is one result for each job. An improved segment keeps its output in the first of its places; the workers lower
 /// the others, one for each gate that was removed. The pass that comes back is the only one: it has all tickets, and the board may be closed with it. Where

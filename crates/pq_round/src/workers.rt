@@ -1,11 +1,11 @@
-ghost use Rattle.std.specs.Prelude.{◌≡◌, ◌*◌, ◌++◌, ◌<◌, ◌≤◌, true, false, [], length, IfOk, All, Contains};
+ghost use Rattle.std.specs.Prelude.{◌≡◌, ◌*◌, ◌++◌, ◌<◌, ◌≤◌, true, false, [], length, cond, Some, None, IfOk, IfSome, All, Contains};
 ghost use Rattle.std.specs.List.Sorted.{IsStrictlyIncreasing};
 ghost use Rattle.std.specs.Thread.{IsSync};
 ghost use Rattle.pq_limits.specs.Limits.{IsOmega};
 ghost use Rattle.pq_match.specs.Row.{IsSound};
 ghost use Rattle.pq_board.specs.Law.{job, stake, late};
 ghost use Rattle.pq_board.specs.Steps.{BelongsTo, unused, lowered_places};
-ghost use Rattle.pq_round.specs.Desks.{HasRoomFor};
+ghost use Rattle.pq_round.specs.Desks.{HasRoomFor, IsSpare};
 ghost use Rattle.pq_round.specs.Results.{given_up};
 ghost use Rattle.pq_round.specs.Workers.{IsOfItsJob, HasDone, HasLowered, HasDrawnOne};
 
@@ -13,6 +13,7 @@ use crate::desk::Desk;
 use crate::gate::WorkGate;
 use pq_array::Cells;
 use pq_board::{Board, Pass};
+use pq_gate::GateList;
 use pq_list::OutOfMemory;
 use pq_match::Seg;
 use pq_oracle::Worked;
@@ -156,23 +157,26 @@ fn work_alone<'r, G: WorkGate>(
     ensures late { IfOk result (λ list. 1 ≤ late context.now.board.now.plan pass.new.view.tickets) }
 {
     let mut seg = Seg::reserve(alloc, 2 * context.omega)?;
+    let mut spare = None;
     let mut results = Vec::with_capacity(alloc, context.share as usize)?;
-    'jobs: while work_next(alloc, context, pass, &mut seg, &mut results)? {}
+    'jobs: while work_next(alloc, context, pass, &mut seg, &mut spare, &mut results)? {}
     Ok(results)
 }
 
 /// Claims the next job and works it in the worker's segment, and says whether there was one. The room is taken before the
-/// claim: that of the copy of the input, of the output, and of the result.
+/// claim: that of the copy of the input, of a spare list unless the worker has one still, and of the result.
 fn work_next<'r, G: WorkGate>(
     alloc: Global,
     context: &RoundContext<'_, 'r, G>,
     pass: &mut Pass,
     seg: &mut Seg,
+    spare: &mut Option<GateList>,
     results: &mut Vec<Worked<'r>>,
 ) -> Result<bool, OutOfMemory>
     requires omega { IsOmega context.now.omega }
     requires empty { seg.old.items ≡ [] }
     requires room { seg.old.room ≡ 2 * context.now.omega }
+    requires spare { IfSome spare.old (IsSpare (2 * context.now.omega)) }
     requires sound { All IsSound context.now.rules.now }
     requires short { All (λ places. length places ≤ 2 * context.now.omega) context.now.board.now.plan.jobs }
     requires belongs { BelongsTo context.now.board.now pass.old }
@@ -185,13 +189,16 @@ fn work_next<'r, G: WorkGate>(
     ensures one { IfOk result (λ more. more ≡ true → HasDrawnOne pass.old.view pass.new.view) }
     ensures emptied { seg.new.items ≡ [] }
     ensures kept { seg.new.room ≡ seg.old.room }
+    ensures spare { IfSome spare.new (IsSpare (2 * context.now.omega)) }
 {
-    let desk = Desk::reserve(alloc, 2 * context.omega)?;
+    let desk = Desk::reserve(alloc, 2 * context.omega, spare.take())?;
     results.reserve(1)?;
     match context.board.claim(pass) {
         Some(ticket) => {
             let places = context.board.places(ticket);
-            results.push_reserved(work(context, pass, seg, ticket, places, desk));
+            let (worked, left) = work(context, pass, seg, ticket, places, desk);
+            *spare = left;
+            results.push_reserved(worked);
             Ok(true)
         }
         None => Ok(false),
@@ -199,7 +206,7 @@ fn work_next<'r, G: WorkGate>(
 }
 
 /// Works the job of a ticket, with the gate before and after it, and lowers the places that its segment gives up. It
-/// takes no memory.
+/// takes no memory. The desk's spare list is left where nothing was improved.
 fn work<'r, G: WorkGate>(
     context: &RoundContext<'_, 'r, G>,
     pass: &mut Pass,
@@ -207,7 +214,7 @@ fn work<'r, G: WorkGate>(
     ticket: u64,
     places: &[u64],
     desk: Desk,
-) -> Worked<'r>
+) -> (Worked<'r>, Option<GateList>)
     requires sound { All IsSound context.now.rules.now }
     requires belongs { BelongsTo context.now.board.now pass.old }
     requires early { ticket < length context.now.board.now.plan.jobs }
@@ -218,17 +225,18 @@ fn work<'r, G: WorkGate>(
     requires fits { length places.now ≤ seg.old.room }
     requires room { HasRoomFor seg.old.room desk }
     ensures board { pass.new.board ≡ pass.old.board }
-    ensures lowered { HasLowered pass.old.view pass.new.view (given_up context.now.board.now.plan.jobs result) }
-    ensures ticket { result.ticket ≡ ticket }
-    ensures result { IsOfItsJob context.now.cells.now context.now.board.now.plan.jobs context.now.rules.now result }
+    ensures lowered { HasLowered pass.old.view pass.new.view (given_up context.now.board.now.plan.jobs result.0) }
+    ensures ticket { result.0.ticket ≡ ticket }
+    ensures result { IsOfItsJob context.now.cells.now context.now.board.now.plan.jobs context.now.rules.now result.0 }
+    ensures left { result.1 ≡ cond result.0.answer.improved None (Some desk.spare) }
     ensures emptied { seg.new.items ≡ [] }
     ensures kept { seg.new.room ≡ seg.old.room }
 {
     context.gate.before(ticket);
-    let worked = desk.work(seg, context.cells, places, context.rules, ticket);
+    let (worked, left) = desk.work(seg, context.cells, places, context.rules, ticket);
     give_up(context.board, pass, &worked);
     context.gate.after(ticket);
-    worked
+    (worked, left)
 }
 
 /// Lowers the places that a worked segment gives up: where it was improved, those behind its output.

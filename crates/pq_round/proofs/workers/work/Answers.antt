@@ -11,5 +11,5 @@ give_up-requires-clause-fresh g c =
 
 pub give_up-requires-clause-shorter : goal.give_up-requires-clause-shorter
 give_up-requires-clause-shorter g c =
-    subst (λ (l : List ℕ). length c.work-worked.result.answer.gates ≤ length l) (c.requires.places ∙ ap (λ (t : ℕ). job c.args.context.now.board.now.plan t) (sym c.work-worked.ensures.result.ticket_is))
-    (given_few c.args.context.now.cells.now c.args.places.now c.args.context.now.rules.now c.args.ticket c.work-worked.result c.requires.sound c.work-worked.ensures.result)
+    subst (λ (l : List ℕ). length c.work-worked.result.0.answer.gates ≤ length l) (c.requires.places ∙ ap (λ (t : ℕ). job c.args.context.now.board.now.plan t) (sym c.work-worked.ensures.result.ticket_is))
+    (given_few c.args.context.now.cells.now c.args.places.now c.args.context.now.rules.now c.args.ticket c.work-worked.result.0 c.requires.sound c.work-worked.ensures.result)

@@ -10,4 +10,5 @@ jobs-init g c = record {
   done = done_none c.args.context.now.cells.now c.args.context.now.rules.now c.args.context.now.board.now.plan c.args.pass.now.view.rights c.args.pass.now.view c.in_ok-results.results.items c.requires.idle (search rules);
   empty = c.in_ok-seg.ensures.items;
   room = c.in_ok-seg.ensures.room;
+  spare = tt;
 }

@@ -1,6 +1,8 @@
 use Rattle.std.proofs.Common.{◌≡◌, ◌≤◌, ◌-◌, ◌*◌, [], length}
+use Rattle.std.specs.Prelude.{IfSome}
 use Rattle.pq_board.specs.Law.{stake}
 use Rattle.pq_board.specs.Steps.{BelongsTo}
+use Rattle.pq_round.specs.Desks.{IsSpare}
 use Rattle.pq_round.specs.Workers.{HasDone, next_of}
 use Rattle.pq_round.proofs.workers.work_alone.Given as goal
 
@@ -14,6 +16,7 @@ invariant-jobs g l = record {
   done : HasDone l.context.cells.now l.context.rules.now l.pass.view l.results.items;
   empty : l.seg.items ≡ [];
   room : l.seg.room ≡ 2 * l.context.omega;
+  spare : IfSome l.spare (IsSpare (2 * l.context.omega));
 }
 
 abbrev pub decreases-jobs : goal.decreases-jobs
