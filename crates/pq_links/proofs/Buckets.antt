@@ -1,16 +1,15 @@
 -- The last place on a wire, found along the places in the wire's bucket.
-use Rattle.std.proofs.Common.{◌≡◌, ◌≢◌, ℕ, ◌+◌, ◌-◌, ◌/◌, ◌%◌, ◌<◌, ◌≤◌, Bool, true, false, min, bit_xor, List, length, map, get_or, sym, ap, subst, ◌∙◌, arith, inl, inr, ◌⊎◌}
+use Rattle.std.proofs.Common.{◌≡◌, ◌≢◌, ℕ, ◌+◌, ◌-◌, ◌/◌, ◌%◌, ◌<◌, ◌≤◌, ◌==◌, Bool, true, false, min, bit_xor, List, length, sym, ap, subst, ◌∙◌, arith, inl, inr, ◌⊎◌}
 use Rattle.std.proofs.lemmas.Bool.{cases_order, cases_lt}
 use Rattle.std.proofs.lemmas.Nat.{and_le_r}
 use Rattle.std.specs.Int.Bits.{xor_self, xor_zero_l, xor_zero_r, xor_assoc}
 use Rattle.pq_gate.specs.declared.gate.Gate.{Gate}
-use Rattle.pq_gate.specs.declared.gate.Gate.TheVariants.{H}
 use Rattle.pq_gate.specs.Commuting.{Touches}
-use Rattle.pq_gate.specs.Ports.{last_wire}
-use Rattle.std.proofs.lemmas.List.{get_or-map}
 use Rattle.pq_links.specs.Wires.{wire_of}
 use Rattle.pq_links.specs.Places.{gate_at}
-use Rattle.pq_links.specs.Links.{bucket_of, far, IsLastIn, IsLastOn}
+use Rattle.pq_links.specs.declared.links.Head.{Head}
+use Rattle.pq_links.specs.Links.{bucket_of, is_on, far, IsHead, IsEndOn, IsLastIn, IsLastOn}
+use Rattle.pq_links.specs.Leading.{IsHeadOf}
 use Rattle.pq_links.proofs.Touching.{touched, touching}
 
 -- each wire has its bucket
@@ -85,21 +84,53 @@ earlier_less {buckets} {bucket} {gates} {place} {earlier} few inside last = by (
     by (inr (inl less)) = omega arith
     by (inr (inr more)) = (let e : earlier ≡ far = last.past (omega arith) in omega arith)
 
--- the last wire of a gate, as it was noted
-pub end_of : (gates : List Gate) (ends : List ℕ) (place : ℕ) → ends ≡ map last_wire gates → place < length gates → get_or ends place 0 ≡ last_wire (gate_at gates place)
-end_of gates ends place are inside = ap (λ (xs : List ℕ). get_or xs place 0) are ∙ get_or-map last_wire gates place (H 0) 0 inside
-
 -- the place that was looked for
-pub back_found : (buckets bucket : ℕ) (gates : List Gate) (ends : List ℕ) (wire place first : ℕ) → ends ≡ map last_wire gates → IsBack buckets bucket gates wire place →
-    place < length gates → first ≡ wire_of false (gate_at gates place) → (first ≡ wire) ⊎ (get_or ends place 0 ≡ wire) → IsLastOn gates wire (length gates) place
-back_found buckets bucket gates ends wire place first are back inside first_is either = record {
-  uses = λ _. elim either [
-    | inl same ↦ subst (Touches (gate_at gates place)) (sym first_is ∙ same) (touching (gate_at gates place) false)
-    | inr same ↦ subst (Touches (gate_at gates place)) (sym (end_of gates ends place are inside) ∙ same) (touching (gate_at gates place) true)
-  ];
-  none = back.none;
-  past = back.past;
+pub back_found : (buckets bucket : ℕ) (gates : List Gate) (wire place first second : ℕ) (head : Head) → IsBack buckets bucket gates wire place →
+    place < length gates → first ≡ wire_of false (gate_at gates place) → second ≡ wire_of true (gate_at gates place) → (first ≡ wire) ⊎ (second ≡ wire) →
+    IsHeadOf (gate_at gates place) place wire head → IsEndOn gates wire head
+back_found buckets bucket gates wire place first second head back inside first_is second_is either of_gate = record {
+  last = subst (λ (p : ℕ). IsLastOn gates wire (length gates) p) (sym of_gate.at) (record {
+    uses = λ _. elim either [
+      | inl same ↦ subst (Touches (gate_at gates place)) (sym first_is ∙ same) (touching (gate_at gates place) false)
+      | inr same ↦ subst (Touches (gate_at gates place)) (sym second_is ∙ same) (touching (gate_at gates place) true)
+    ];
+    none = back.none;
+    past = back.past;
+  });
+  sides = λ one _. subst (λ (p : ℕ). is_on one head ≡ (wire_of one (gate_at gates p) == wire)) (sym of_gate.at) (of_gate.sides one);
 }
+
+-- no place is left
+pub back_ends : (buckets bucket : ℕ) (gates : List Gate) (wire place : ℕ) (head : Head) → IsBack buckets bucket gates wire place → length gates < far →
+    length gates ≤ place → head.place ≡ far → IsEndOn gates wire head
+back_ends buckets bucket gates wire place head back few past at = record {
+  last = record {
+    uses = λ below. absurd (omega (arith, at));
+    none = λ p below _. back.none p below (λ low. absurd (omega arith));
+    past = λ _. at;
+  };
+  sides = λ one below. absurd (omega (arith, at));
+}
+
+-- a bucket's head that is on the wire, or of an empty bucket
+pub head_known : (buckets bucket : ℕ) (gates : List Gate) (wire : ℕ) (head : Head) → bucket ≡ bucket_of buckets wire → IsHead buckets bucket gates head →
+    (head.wire ≡ wire) ⊎ (length gates ≤ head.place) → IsEndOn gates wire head
+head_known buckets bucket gates wire head here is either = record {
+  last = record {
+    uses = λ below. uses below either;
+    none = λ p below behind. not_in buckets (gate_at gates p) wire (λ one in_it. is.last.none p below behind one (in_it ∙ sym here));
+    past = is.last.past;
+  };
+  sides = λ one below. sides one below either;
+}
+  where
+    uses : head.place < length gates → (head.wire ≡ wire) ⊎ (length gates ≤ head.place) → Touches (gate_at gates head.place) wire
+    uses below (inl same) = subst (Touches (gate_at gates head.place)) same (is.uses below)
+    uses below (inr past) = absurd (omega arith)
+
+    sides : (one : Bool) → head.place < length gates → (head.wire ≡ wire) ⊎ (length gates ≤ head.place) → is_on one head ≡ (wire_of one (gate_at gates head.place) == wire)
+    sides one below (inl same) = is.sides one below ∙ ap (λ (w : ℕ). wire_of one (gate_at gates head.place) == w) same
+    sides one below (inr past) = absurd (omega arith)
 
 -- numbers without a different bit are one
 xor_same : (a b : ℕ) → bit_xor a b ≡ 0 → a ≡ b

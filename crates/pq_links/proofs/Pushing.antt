@@ -1,20 +1,20 @@
 -- The links of a list with a gate more.
-use Rattle.std.proofs.Common.{◌≡◌, ◌≢◌, ℕ, ◌+◌, ◌<◌, ◌≤◌, Bool, true, false, List, [], ◌∷◌, ◌++◌, length, get_or, set, take, drop, refl, sym, ap, subst, ◌∙◌, arith, inl, inr, ◌⊎◌}
-use Rattle.std.proofs.lemmas.Bool.{cases_order}
+use Rattle.std.proofs.Common.{◌≡◌, ◌≢◌, ℕ, ◌+◌, ◌<◌, ◌≤◌, ◌==◌, Bool, true, false, List, [], ◌∷◌, ◌++◌, length, get_or, set, take, drop, refl, sym, ap, subst, ◌∙◌, arith, inl, inr, ◌⊎◌}
+use Rattle.std.proofs.lemmas.Bool.{cases_order, cases_lt}
 use Rattle.std.proofs.Math.ListN.{get_or-append}
 use Rattle.std.proofs.lemmas.Grind.{get_or-set_at}
-use Rattle.std.proofs.lemmas.List.{map-append, length-append, length-set, get_or-set_other, take-append-le}
+use Rattle.std.proofs.lemmas.List.{length-append, length-set, get_or-set_other, take-append-le}
 use Rattle.std.proofs.Math.Seq.{get_or-append_seam, take-length}
 use Rattle.pq_gate.specs.declared.gate.Gate.{Gate}
 use Rattle.pq_gate.specs.declared.gate.Gate.TheVariants.{H}
 use Rattle.pq_gate.specs.Commuting.{Touches}
-use Rattle.pq_gate.specs.Ports.{last_wire}
 use Rattle.pq_links.specs.declared.links.Sides.{Sides}
 use Rattle.pq_links.specs.Wires.{wire_of}
 use Rattle.pq_links.specs.Places.{gate_at}
-use Rattle.pq_links.specs.Links.{bucket_of, side, side_at, far, IsNextOn, IsLastIn, IsLastOn, LinksView, AreLinked}
+use Rattle.pq_links.specs.declared.links.Head.{Head}
+use Rattle.pq_links.specs.Links.{bucket_of, side, side_at, head_at, far, IsHead, IsNextOn, IsLastIn, IsLastOn, LinksView, AreLinked}
 use Rattle.pq_links.proofs.Buckets.{bucket_below}
-use Rattle.pq_links.specs.Leading.{IsLedAt, AreLed}
+use Rattle.pq_links.specs.Leading.{IsHeadOf, IsLedAt, AreLed}
 use Rattle.pq_links.proofs.Touching.{touching, on_which}
 
 module _ (gates : List Gate) (gate : Gate) where
@@ -111,6 +111,35 @@ module _ (gates : List Gate) (gate : Gate) where
           (last.none p less (λ low. behind (let l : length (gates ++ gate ∷ []) ≡ length gates + 1 = long in omega arith)))
       none p below behind (inr (inr above)) = (let l : length (gates ++ gate ∷ []) ≡ length gates + 1 = long in absurd (omega arith))
 
+  -- the head of a bucket of the gate,
+  own_head : (buckets bucket : ℕ) (one : Bool) (head : Head) → bucket_of buckets (wire_of one gate) ≡ bucket → IsHeadOf gate (length gates) (wire_of one gate) head →
+      IsHead buckets bucket (gates ++ gate ∷ []) head
+  own_head buckets bucket one head is of_gate = record {
+    last = subst (λ (p : ℕ). IsLastIn buckets bucket (gates ++ gate ∷ []) (length (gates ++ gate ∷ [])) p) (sym of_gate.at) (head_new buckets bucket one is);
+    uses = λ _. subst (λ (g : Gate). Touches g head.wire) (sym there) (subst (Touches gate) (sym of_gate.on) (touching gate one));
+    sides = λ side _. of_gate.sides side
+        ∙ (ap (λ (w : ℕ). wire_of side gate == w) (sym of_gate.on) ∙ ap (λ (g : Gate). wire_of side g == head.wire) (sym there));
+  }
+    where
+      there : gate_at (gates ++ gate ∷ []) head.place ≡ gate
+      there = ap (λ (p : ℕ). gate_at (gates ++ gate ∷ []) p) of_gate.at ∙ new_at
+
+  -- and that of another one
+  other_bucket : (buckets bucket : ℕ) (head : Head) → length gates < far → IsHead buckets bucket gates head → ((one : Bool) → bucket_of buckets (wire_of one gate) ≢ bucket) →
+      IsHead buckets bucket (gates ++ gate ∷ []) head
+  other_bucket buckets bucket head few is other = record {
+    last = head_old buckets bucket head.place few is.last other;
+    uses = λ below. subst (λ (g : Gate). Touches g head.wire) (sym (old_at head.place (inside below))) (is.uses (inside below));
+    sides = λ side below. is.sides side (inside below) ∙ ap (λ (g : Gate). wire_of side g == head.wire) (sym (old_at head.place (inside below)));
+  }
+    where
+      inside : head.place < length (gates ++ gate ∷ []) → head.place < length gates
+      inside below = by (cases_lt head.place (length gates))
+        where
+          by : (head.place < length gates) ⊎ (length gates ≤ head.place) → head.place < length gates
+          by (inl less) = less
+          by (inr past) = absurd (let e : head.place ≡ far = is.last.past past in let l : length (gates ++ gate ∷ []) ≡ length gates + 1 = long in omega arith)
+
   -- the last place on a wire before a bound
   last_more : (wire bound c : ℕ) → bound ≤ length gates → IsLastOn gates wire bound c → IsLastOn (gates ++ gate ∷ []) wire bound c
   last_more wire bound c upto last = record {
@@ -186,8 +215,9 @@ module _ (gates : List Gate) (gate : Gate) where
     previouses_more p one below (inr (inr above)) = absurd (let l : length (gates ++ gate ∷ []) ≡ length gates + 1 = long in omega arith)
 
     module _ (before : Sides) (buckets : ℕ) (are : buckets ≡ length links.heads)
-        (one_before : before.first ≡ get_or links.heads (bucket_of buckets (wire_of false gate)) 0)
-        (other_before : before.second ≡ get_or links.heads (bucket_of buckets (wire_of true gate)) 0) where
+        (one_before : before.first ≡ (head_at links.heads (bucket_of buckets (wire_of false gate))).place)
+        (other_before : before.second ≡ (head_at links.heads (bucket_of buckets (wire_of true gate))).place)
+        (one_head other_head : Head) (is_one : IsHeadOf gate (length gates) (wire_of false gate) one_head) (is_other : IsHeadOf gate (length gates) (wire_of true gate) other_head) where
       nexts_more : (p : ℕ) (one : Bool) → p < length (gates ++ gate ∷ []) → (p ≡ length gates) ⊎ ((p < length gates) ⊎ (length gates < p)) →
           IsNextOn (gates ++ gate ∷ []) (wire_of one (gate_at (gates ++ gate ∷ []) p)) (p + 1) (side_at one (led ++ (record { first = far; second = far }) ∷ []) p)
       nexts_more p one below (inl same) =
@@ -223,18 +253,18 @@ module _ (gates : List Gate) (gate : Gate) where
           gate_is : gate_at (gates ++ gate ∷ []) p ≡ gate
           gate_is = ap (λ (k : ℕ). gate_at (gates ++ gate ∷ []) k) same ∙ new_at
 
-          side_is : (one : Bool) → side one before ≡ get_or links.heads (bucket_of (length links.heads) (wire_of one gate)) 0
-          side_is true = other_before ∙ ap (λ (b : ℕ). get_or links.heads (bucket_of b (wire_of true gate)) 0) are
-          side_is false = one_before ∙ ap (λ (b : ℕ). get_or links.heads (bucket_of b (wire_of false gate)) 0) are
+          side_is : (one : Bool) → side one before ≡ (head_at links.heads (bucket_of (length links.heads) (wire_of one gate))).place
+          side_is true = other_before ∙ ap (λ (b : ℕ). (head_at links.heads (bucket_of b (wire_of true gate))).place) are
+          side_is false = one_before ∙ ap (λ (b : ℕ). (head_at links.heads (bucket_of b (wire_of false gate))).place) are
 
           rest : (one : Bool) → IsLastIn (length links.heads) (bucket_of (length links.heads) (wire_of one (gate_at (gates ++ gate ∷ []) p))) (gates ++ gate ∷ []) p (side_at one (links.before ++ before ∷ []) p)
           rest one =
               subst (λ (g : Gate). IsLastIn (length links.heads) (bucket_of (length links.heads) (wire_of one g)) (gates ++ gate ∷ []) p (side_at one (links.before ++ before ∷ []) p)) (sym gate_is)
               (subst (λ (s : Sides). IsLastIn (length links.heads) (bucket_of (length links.heads) (wire_of one gate)) (gates ++ gate ∷ []) p (side one s)) (sym there)
               (subst (λ (c : ℕ). IsLastIn (length links.heads) (bucket_of (length links.heads) (wire_of one gate)) (gates ++ gate ∷ []) p c) (sym (side_is one))
-              (subst (λ (q : ℕ). IsLastIn (length links.heads) (bucket_of (length links.heads) (wire_of one gate)) (gates ++ gate ∷ []) q (get_or links.heads (bucket_of (length links.heads) (wire_of one gate)) 0)) (sym same)
+              (subst (λ (q : ℕ). IsLastIn (length links.heads) (bucket_of (length links.heads) (wire_of one gate)) (gates ++ gate ∷ []) q (head_at links.heads (bucket_of (length links.heads) (wire_of one gate))).place) (sym same)
               (last_in_more (length links.heads) (bucket_of (length links.heads) (wire_of one gate)) (length gates) _ (omega arith)
-              (linked.heads (bucket_of (length links.heads) (wire_of one gate)) (bucket_below (length links.heads) (wire_of one gate) linked.some))))))
+              (linked.heads (bucket_of (length links.heads) (wire_of one gate)) (bucket_below (length links.heads) (wire_of one gate) linked.some)).last))))
       befores_more p one below (inr (inl less)) =
           subst (λ (g : Gate). IsLastIn (length links.heads) (bucket_of (length links.heads) (wire_of one g)) (gates ++ gate ∷ []) p (side_at one (links.before ++ before ∷ []) p)) (sym (old_at p less))
           (subst (λ (s : Sides). IsLastIn (length links.heads) (bucket_of (length links.heads) (wire_of one (gate_at gates p))) (gates ++ gate ∷ []) p (side one s))
@@ -242,33 +272,38 @@ module _ (gates : List Gate) (gate : Gate) where
           (last_in_more (length links.heads) (bucket_of (length links.heads) (wire_of one (gate_at gates p))) p _ (omega arith) (linked.before p one less)))
       befores_more p one below (inr (inr above)) = absurd (let l : length (gates ++ gate ∷ []) ≡ length gates + 1 = long in omega arith)
 
-      heads_long : length (set (set links.heads (bucket_of buckets (wire_of false gate)) (length gates)) (bucket_of buckets (wire_of true gate)) (length gates)) ≡ length links.heads
-      heads_long = length-set (set links.heads (bucket_of buckets (wire_of false gate)) (length gates)) (bucket_of buckets (wire_of true gate)) (length gates) ∙ length-set links.heads (bucket_of buckets (wire_of false gate)) (length gates)
+      abbrev first_set : List Head
+      first_set = set links.heads (bucket_of buckets (wire_of false gate)) one_head
+
+      abbrev both_set : List Head
+      both_set = set first_set (bucket_of buckets (wire_of true gate)) other_head
+
+      heads_long : length both_set ≡ length links.heads
+      heads_long = length-set first_set (bucket_of buckets (wire_of true gate)) other_head ∙ length-set links.heads (bucket_of buckets (wire_of false gate)) one_head
 
       heads_more : (k : ℕ) → k < length links.heads →
           (k ≡ bucket_of buckets (wire_of false gate)) ⊎ ((k < bucket_of buckets (wire_of false gate)) ⊎ (bucket_of buckets (wire_of false gate) < k)) →
           (k ≡ bucket_of buckets (wire_of true gate)) ⊎ ((k < bucket_of buckets (wire_of true gate)) ⊎ (bucket_of buckets (wire_of true gate) < k)) →
-          IsLastIn (length links.heads) k (gates ++ gate ∷ []) (length (gates ++ gate ∷ []))
-          (get_or (set (set links.heads (bucket_of buckets (wire_of false gate)) (length gates)) (bucket_of buckets (wire_of true gate)) (length gates)) k 0)
+          IsHead (length links.heads) k (gates ++ gate ∷ []) (head_at both_set k)
       heads_more k below _ (inl second) =
-          subst (λ (c : ℕ). IsLastIn (length links.heads) k (gates ++ gate ∷ []) (length (gates ++ gate ∷ [])) c)
-          (sym (get_or-set_at (set links.heads (bucket_of buckets (wire_of false gate)) (length gates)) (bucket_of buckets (wire_of true gate)) k (length gates) 0 second
-          (let l : length (set links.heads (bucket_of buckets (wire_of false gate)) (length gates)) ≡ length links.heads = length-set links.heads (bucket_of buckets (wire_of false gate)) (length gates) in omega arith)))
-          (head_new (length links.heads) k true (ap (λ (b : ℕ). bucket_of b (wire_of true gate)) (sym are) ∙ sym second))
+          subst (λ (h : Head). IsHead (length links.heads) k (gates ++ gate ∷ []) h)
+          (sym (get_or-set_at first_set (bucket_of buckets (wire_of true gate)) k other_head (record { wire = 0; place = 0; first = false; last = false }) second
+          (let l : length first_set ≡ length links.heads = length-set links.heads (bucket_of buckets (wire_of false gate)) one_head in omega arith)))
+          (own_head (length links.heads) k true other_head (ap (λ (b : ℕ). bucket_of b (wire_of true gate)) (sym are) ∙ sym second) is_other)
       heads_more k below (inl first) (inr not_second) =
-          subst (λ (c : ℕ). IsLastIn (length links.heads) k (gates ++ gate ∷ []) (length (gates ++ gate ∷ [])) c)
-          (sym (get_or-set_other (set links.heads (bucket_of buckets (wire_of false gate)) (length gates)) (bucket_of buckets (wire_of true gate)) k (length gates) 0 (apart not_second)
-          ∙ get_or-set_at links.heads (bucket_of buckets (wire_of false gate)) k (length gates) 0 first (omega arith)))
-          (head_new (length links.heads) k false (ap (λ (b : ℕ). bucket_of b (wire_of false gate)) (sym are) ∙ sym first))
+          subst (λ (h : Head). IsHead (length links.heads) k (gates ++ gate ∷ []) h)
+          (sym (get_or-set_other first_set (bucket_of buckets (wire_of true gate)) k other_head (record { wire = 0; place = 0; first = false; last = false }) (apart not_second)
+          ∙ get_or-set_at links.heads (bucket_of buckets (wire_of false gate)) k one_head (record { wire = 0; place = 0; first = false; last = false }) first (omega arith)))
+          (own_head (length links.heads) k false one_head (ap (λ (b : ℕ). bucket_of b (wire_of false gate)) (sym are) ∙ sym first) is_one)
         where
           apart : {a b : ℕ} → (a < b) ⊎ (b < a) → a ≢ b
           apart (inl less) same = omega arith
           apart (inr more) same = omega arith
       heads_more k below (inr not_first) (inr not_second) =
-          subst (λ (c : ℕ). IsLastIn (length links.heads) k (gates ++ gate ∷ []) (length (gates ++ gate ∷ [])) c)
-          (sym (get_or-set_other (set links.heads (bucket_of buckets (wire_of false gate)) (length gates)) (bucket_of buckets (wire_of true gate)) k (length gates) 0 (apart not_second)
-          ∙ get_or-set_other links.heads (bucket_of buckets (wire_of false gate)) k (length gates) 0 (apart not_first)))
-          (head_old (length links.heads) k (get_or links.heads k 0) few (linked.heads k below) neither)
+          subst (λ (h : Head). IsHead (length links.heads) k (gates ++ gate ∷ []) h)
+          (sym (get_or-set_other first_set (bucket_of buckets (wire_of true gate)) k other_head (record { wire = 0; place = 0; first = false; last = false }) (apart not_second)
+          ∙ get_or-set_other links.heads (bucket_of buckets (wire_of false gate)) k one_head (record { wire = 0; place = 0; first = false; last = false }) (apart not_first)))
+          (other_bucket (length links.heads) k (head_at links.heads k) few (linked.heads k below) neither)
         where
           apart : {a b : ℕ} → (a < b) ⊎ (b < a) → a ≢ b
           apart (inl less) same = omega arith
@@ -282,8 +317,7 @@ module _ (gates : List Gate) (gate : Gate) where
         next = led ++ (record { first = far; second = far }) ∷ [];
         previous = links.previous ++ last ∷ [];
         before = links.before ++ before ∷ [];
-        ends = links.ends ++ last_wire gate ∷ [];
-        heads = set (set links.heads (bucket_of buckets (wire_of false gate)) (length gates)) (bucket_of buckets (wire_of true gate)) (length gates);
+        heads = both_set;
         room = room;
       })
       linked_more room = record {
@@ -293,38 +327,38 @@ module _ (gates : List Gate) (gate : Gate) where
         some = (let s : 0 < length links.heads = linked.some in let l = heads_long in omega (arith, heads_long));
         next = λ p one below. nexts_more p one below (cases_order p (length gates));
         previous = λ p one below. previouses_more p one below (cases_order p (length gates));
-        ends = ap (λ (xs : List ℕ). xs ++ last_wire gate ∷ []) linked.ends ∙ sym (map-append last_wire gates (gate ∷ []));
         before = λ p one below.
             subst (λ (b : ℕ). IsLastIn b (bucket_of b (wire_of one (gate_at (gates ++ gate ∷ []) p))) (gates ++ gate ∷ []) p (side_at one (links.before ++ before ∷ []) p)) (sym heads_long)
             (befores_more p one below (cases_order p (length gates)));
         heads = λ k below.
-            subst (λ (b : ℕ). IsLastIn b k (gates ++ gate ∷ []) (length (gates ++ gate ∷ [])) (get_or (set (set links.heads (bucket_of buckets (wire_of false gate)) (length gates)) (bucket_of buckets (wire_of true gate)) (length gates)) k 0)) (sym heads_long)
+            subst (λ (b : ℕ). IsHead b k (gates ++ gate ∷ []) (head_at both_set k)) (sym heads_long)
             (heads_more k (subst (λ (b : ℕ). k < b) heads_long below) (cases_order k (bucket_of buckets (wire_of false gate))) (cases_order k (bucket_of buckets (wire_of true gate))));
       }
 
 -- The same, where the new links are equal to these.
-pub pushed : (gates : List Gate) (gate : Gate) (old new : LinksView) (first second buckets : ℕ) (last : Sides) (led : List Sides) (before : Sides) →
+pub pushed : (gates : List Gate) (gate : Gate) (old new : LinksView) (first second buckets : ℕ) (last : Sides) (led : List Sides) (before : Sides) (one other : Head) →
     AreLinked gates old → length gates < far → first ≡ wire_of false gate → second ≡ wire_of true gate →
-    IsLastOn gates (wire_of false gate) (length gates) last.first → IsLastOn gates (wire_of true gate) (length gates) last.second →
+    IsLastOn gates first (length gates) last.first → IsLastOn gates second (length gates) last.second →
     AreLed gates gate last (record { first = length gates; second = length gates }) old.next led →
-    buckets ≡ length old.heads → before.first ≡ get_or old.heads (bucket_of buckets first) 0 → before.second ≡ get_or old.heads (bucket_of buckets second) 0 →
-    new.next ≡ led ++ (record { first = far; second = far }) ∷ [] → new.previous ≡ old.previous ++ last ∷ [] → new.before ≡ old.before ++ before ∷ [] → new.ends ≡ old.ends ++ last_wire gate ∷ [] →
-    new.heads ≡ set (set old.heads (bucket_of buckets first) (length gates)) (bucket_of buckets second) (length gates) →
+    buckets ≡ length old.heads → before.first ≡ (head_at old.heads (bucket_of buckets first)).place → before.second ≡ (head_at old.heads (bucket_of buckets second)).place →
+    IsHeadOf gate (length gates) first one → IsHeadOf gate (length gates) second other →
+    new.next ≡ led ++ (record { first = far; second = far }) ∷ [] → new.previous ≡ old.previous ++ last ∷ [] → new.before ≡ old.before ++ before ∷ [] →
+    new.heads ≡ set (set old.heads (bucket_of buckets first) one) (bucket_of buckets second) other →
     AreLinked (gates ++ gate ∷ []) new
-pushed gates gate old new first second buckets last led before linked few first_is second_is is_first is_second are_led are one_before other_before nexts previouses befores ends heads =
-    subst (λ (n : List Sides). AreLinked (gates ++ gate ∷ []) (record { next = n; previous = new.previous; before = new.before; ends = new.ends; heads = new.heads; room = new.room })) (sym nexts)
-    (subst (λ (l : List Sides). AreLinked (gates ++ gate ∷ []) (record { next = led ++ (record { first = far; second = far }) ∷ []; previous = l; before = new.before; ends = new.ends; heads = new.heads; room = new.room })) (sym previouses)
-    (subst (λ (b : List Sides). AreLinked (gates ++ gate ∷ []) (record { next = led ++ (record { first = far; second = far }) ∷ []; previous = old.previous ++ last ∷ []; before = b; ends = new.ends; heads = new.heads; room = new.room })) (sym befores)
-    (subst (λ (e : List ℕ). AreLinked (gates ++ gate ∷ []) (record { next = led ++ (record { first = far; second = far }) ∷ []; previous = old.previous ++ last ∷ []; before = old.before ++ before ∷ []; ends = e; heads = new.heads; room = new.room })) (sym ends)
-    (subst (λ (h : List ℕ). AreLinked (gates ++ gate ∷ []) (record { next = led ++ (record { first = far; second = far }) ∷ []; previous = old.previous ++ last ∷ []; before = old.before ++ before ∷ []; ends = old.ends ++ last_wire gate ∷ []; heads = h; room = new.room }))
-    (sym (heads ∙ (ap (λ (w : ℕ). set (set old.heads (bucket_of buckets w) (length gates)) (bucket_of buckets second) (length gates)) first_is
-    ∙ ap (λ (w : ℕ). set (set old.heads (bucket_of buckets (wire_of false gate)) (length gates)) (bucket_of buckets w) (length gates)) second_is)))
+pushed gates gate old new first second buckets last led before one other linked few first_is second_is is_first is_second are_led are one_before other_before is_one is_other nexts previouses befores heads =
+    subst (λ (n : List Sides). AreLinked (gates ++ gate ∷ []) (record { next = n; previous = new.previous; before = new.before; heads = new.heads; room = new.room })) (sym nexts)
+    (subst (λ (l : List Sides). AreLinked (gates ++ gate ∷ []) (record { next = led ++ (record { first = far; second = far }) ∷ []; previous = l; before = new.before; heads = new.heads; room = new.room })) (sym previouses)
+    (subst (λ (b : List Sides). AreLinked (gates ++ gate ∷ []) (record { next = led ++ (record { first = far; second = far }) ∷ []; previous = old.previous ++ last ∷ []; before = b; heads = new.heads; room = new.room })) (sym befores)
+    (subst (λ (h : List Head). AreLinked (gates ++ gate ∷ []) (record { next = led ++ (record { first = far; second = far }) ∷ []; previous = old.previous ++ last ∷ []; before = old.before ++ before ∷ []; heads = h; room = new.room }))
+    (sym (heads ∙ (ap (λ (w : ℕ). set (set old.heads (bucket_of buckets w) one) (bucket_of buckets second) other) first_is
+    ∙ ap (λ (w : ℕ). set (set old.heads (bucket_of buckets (wire_of false gate)) one) (bucket_of buckets w) other) second_is)))
     (linked_more gates gate old linked few last led both are_led before buckets are
-    (one_before ∙ ap (λ (w : ℕ). get_or old.heads (bucket_of buckets w) 0) first_is) (other_before ∙ ap (λ (w : ℕ). get_or old.heads (bucket_of buckets w) 0) second_is) new.room)))))
+    (one_before ∙ ap (λ (w : ℕ). (head_at old.heads (bucket_of buckets w)).place) first_is) (other_before ∙ ap (λ (w : ℕ). (head_at old.heads (bucket_of buckets w)).place) second_is)
+    one other (subst (λ (w : ℕ). IsHeadOf gate (length gates) w one) first_is is_one) (subst (λ (w : ℕ). IsHeadOf gate (length gates) w other) second_is is_other) new.room))))
   where
     both : (b : Bool) → IsLastOn gates (wire_of b gate) (length gates) (side b last)
-    both true = is_second
-    both false = is_first
+    both true = subst (λ (w : ℕ). IsLastOn gates w (length gates) last.second) second_is is_second
+    both false = subst (λ (w : ℕ). IsLastOn gates w (length gates) last.first) first_is is_first
 
 -- what is left of a list whose whole front was written
 pub all_written : {X : Type 0} (n : ℕ) (xs ys : List X) → n ≡ length xs → take n (xs ++ drop (length xs) ys) ≡ xs

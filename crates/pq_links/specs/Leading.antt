@@ -1,10 +1,17 @@
 -- What private functions say of lists of sides.
-use Rattle.std.specs.Prelude.{◌≡◌, ℕ, ◌*◌, ◌<◌, ◌⊎◌, Bool, cond, nat_lt, List, length}
+use Rattle.std.specs.Prelude.{◌≡◌, ℕ, ◌*◌, ◌<◌, ◌⊎◌, ◌==◌, Bool, cond, nat_lt, List, length}
 use Rattle.pq_gate.specs.declared.gate.Gate.{Gate}
 use Rattle.pq_links.specs.declared.links.Sides.{Sides}
+use Rattle.pq_links.specs.declared.links.Head.{Head}
 use Rattle.pq_links.specs.Wires.{wire_of}
 use Rattle.pq_links.specs.Places.{gate_at}
-use Rattle.pq_links.specs.Links.{side, side_at, far}
+use Rattle.pq_links.specs.Links.{side, side_at, is_on, far}
+
+-- the head at this place on one of the gate's wires
+pub record IsHeadOf (gate : Gate) (place wire : ℕ) (head : Head) : Type 0 where
+  pub at : head.place ≡ place
+  pub on : head.wire ≡ wire
+  pub sides : (one : Bool) → is_on one head ≡ (wire_of one gate == wire)
 
 -- The side at the place is for one of the gate's wires, and the place is the one that is given for this wire.
 pub record IsLedAt (slots : List Gate) (gate : Gate) (at : Sides) (one : Bool) (place : ℕ) (wire : Bool) : Type 0 where

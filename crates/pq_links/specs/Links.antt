@@ -1,9 +1,9 @@
 -- The neighbours of gates on their wires.
-use Rattle.std.specs.Prelude.{◌≡◌, ◌≢◌, ℕ, ◌+◌, ◌-◌, ◌/◌, ◌<◌, ◌≤◌, Bool, cond, List, bit_and, bit_xor, length, map, slice_index, slice_index_or}
+use Rattle.std.specs.Prelude.{◌≡◌, ◌≢◌, ℕ, ◌+◌, ◌-◌, ◌/◌, ◌<◌, ◌≤◌, ◌==◌, Bool, false, cond, List, bit_and, bit_xor, length, slice_index_or}
 use Rattle.pq_gate.specs.declared.gate.Gate.{Gate}
 use Rattle.pq_gate.specs.Commuting.{Touches}
-use Rattle.pq_gate.specs.Ports.{last_wire}
 use Rattle.pq_links.specs.declared.links.Sides.{Sides}
+use Rattle.pq_links.specs.declared.links.Head.{Head}
 use Rattle.pq_links.specs.Wires.{wire_of}
 use Rattle.pq_links.specs.Places.{gate_at}
 
@@ -47,18 +47,35 @@ abbrev pub AreBefore : ℕ → List Gate → List Sides → Type 0
 AreBefore buckets gates before = (p : ℕ) (one : Bool) → p < length gates →
     IsLastIn buckets (bucket_of buckets (wire_of one (gate_at gates p))) gates p (side_at one before p)
 
+-- whether a head is on the first or the second wire of its gate
+abbrev pub is_on : Bool → Head → Bool
+is_on second head = cond second head.last head.first
+
+abbrev pub head_at : List Head → ℕ → Head
+head_at heads bucket = slice_index_or heads bucket (record { wire = 0; place = 0; first = false; last = false })
+
+-- The head of a bucket: the last place in it, with a wire of its gate, and which of the gate's wires that is.
+pub record IsHead (buckets bucket : ℕ) (gates : List Gate) (head : Head) : Type 0 where
+  pub last : IsLastIn buckets bucket gates (length gates) head.place
+  pub uses : head.place < length gates → Touches (gate_at gates head.place) head.wire
+  pub sides : (one : Bool) → head.place < length gates → is_on one head ≡ (wire_of one (gate_at gates head.place) == head.wire)
+
+-- The last place on a wire, and which of its gate's wires that is.
+pub record IsEndOn (gates : List Gate) (wire : ℕ) (end : Head) : Type 0 where
+  pub last : IsLastOn gates wire (length gates) end.place
+  pub sides : (one : Bool) → end.place < length gates → is_on one end ≡ (wire_of one (gate_at gates end.place) == wire)
+
 -- each bucket knows the last place in it
-abbrev pub AreHeads : List Gate → List ℕ → Type 0
-AreHeads gates heads = (k : ℕ) → k < length heads → IsLastIn (length heads) k gates (length gates) (slice_index heads k)
+abbrev pub AreHeads : List Gate → List Head → Type 0
+AreHeads gates heads = (k : ℕ) → k < length heads → IsHead (length heads) k gates (head_at heads k)
 
 -- links of some gates: for each and each of its wires the next and the previous place on the wire, and the last place before it
--- in the wire's bucket; its last wire; for each bucket the last place in it; and the room that was asked for
+-- in the wire's bucket; for each bucket the last place in it; and the room that was asked for
 pub record LinksView : Type 0 where
   pub next : List Sides
   pub previous : List Sides
   pub before : List Sides
-  pub ends : List ℕ
-  pub heads : List ℕ
+  pub heads : List Head
   pub room : ℕ
 
 -- these are the links of the gates
@@ -70,5 +87,4 @@ pub record AreLinked (gates : List Gate) (links : LinksView) : Type 0 where
   pub next : (p : ℕ) (one : Bool) → p < length gates → IsNextOn gates (wire_of one (gate_at gates p)) (p + 1) (side_at one links.next p)
   pub previous : (p : ℕ) (one : Bool) → p < length gates → IsLastOn gates (wire_of one (gate_at gates p)) p (side_at one links.previous p)
   pub before : AreBefore (length links.heads) gates links.before
-  pub ends : links.ends ≡ map last_wire gates
   pub heads : AreHeads gates links.heads

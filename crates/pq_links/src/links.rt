@@ -3,9 +3,9 @@ ghost use Rattle.pq_gate.specs.Commuting.{Touches};
 ghost use Rattle.pq_gate.specs.Ports.{last_wire};
 ghost use Rattle.pq_links.specs.Wires.{wire_of};
 ghost use Rattle.pq_links.specs.Places.{gate_at};
-ghost use Rattle.pq_links.specs.Links.{bucket_of, side_at, IsNextOn, IsLastOn, AreLinked, AreBefore, AreHeads};
+ghost use Rattle.pq_links.specs.Links.{bucket_of, side_at, is_on, IsNextOn, IsLastIn, IsEndOn, AreLinked, AreBefore, AreHeads};
 ghost use Rattle.pq_links.specs.Slots.{AreNext};
-ghost use Rattle.pq_links.specs.Leading.{AreLed};
+ghost use Rattle.pq_links.specs.Leading.{IsHeadOf, AreLed};
 
 use pq_gate::Gate;
 use pq_list::OutOfMemory;
@@ -25,9 +25,25 @@ pub struct Sides {
     pub second: u16,
 }
 
+/// The last place in a bucket: one of its gate's wires there, and whether that is the gate's first and its last.
+#[derive(Clone, Copy)]
+pub(crate) struct Head {
+    wire: u32,
+    place: u16,
+    first: bool,
+    last: bool,
+}
+
+const NO_HEAD: Head = Head {
+    wire: NO_WIRE,
+    place: 65_535,
+    first: false,
+    last: false,
+};
+
 /// The links of a list of gates: for each gate and each of its wires the next and the previous place on that wire. Gates are
-/// appended in constant expected time: wires go into buckets by their bits, and each gate knows the
-/// last place before it in the bucket of each of its wires. Memory is taken once.
+/// appended in constant expected time: wires go into buckets by their bits, each bucket knows the last place in it, and
+/// each gate the last place before it in the bucket of each of its wires. Memory is taken once.
 #[derive(Drop)]
 pub struct Links {
     next: Vec<Sides>,
@@ -36,11 +52,8 @@ pub struct Links {
     // the last place before it in the bucket of each wire
     before: Vec<Sides>,
 
-    // the last wire of each gate, which is read without a look at its kind
-    ends: Vec<u32>,
-
-    // for each bucket the last place in it; as many as a power of two
-    heads: Vec<u16>,
+    // as many as a power of two
+    heads: Vec<Head>,
     asked: u32,
 }
 
@@ -50,9 +63,9 @@ impl Model for Links {
 
     ghost Value = { LinksView };
 
-    ghost view = { λ a. record { next = a.next.items; previous = a.previous.items; before = a.before.items; ends = a.ends.items; heads = a.heads.items; room = a.asked } };
+    ghost view = { λ a. record { next = a.next.items; previous = a.previous.items; before = a.before.items; heads = a.heads.items; room = a.asked } };
 
-    ghost invariant = { λ a. (a.asked ≤ vec_capacity a.next) × (a.asked ≤ vec_capacity a.previous) × (a.asked ≤ vec_capacity a.before) × (a.asked ≤ vec_capacity a.ends) × (a.asked < far) × (0 < vec_len a.heads) × (vec_len a.heads ≤ 2 * far) };
+    ghost invariant = { λ a. (a.asked ≤ vec_capacity a.next) × (a.asked ≤ vec_capacity a.previous) × (a.asked ≤ vec_capacity a.before) × (a.asked < far) × (0 < vec_len a.heads) × (vec_len a.heads ≤ 2 * far) };
 }
 
 impl Links {
@@ -65,14 +78,12 @@ impl Links {
         let next = Vec::with_capacity(alloc, room as usize)?;
         let previous = Vec::with_capacity(alloc, room as usize)?;
         let before = Vec::with_capacity(alloc, room as usize)?;
-        let ends = Vec::with_capacity(alloc, room as usize)?;
         let buckets = (room / 2 + 1).next_power_of_two() as usize;
-        let heads = Vec::from_elem(alloc, FAR as u16, buckets)?;
+        let heads = Vec::from_elem(alloc, NO_HEAD, buckets)?;
         Ok(Links {
             next,
             previous,
             before,
-            ends,
             heads,
             asked: room,
         })
@@ -86,8 +97,7 @@ impl Links {
         self.next.clear();
         self.previous.clear();
         self.before.clear();
-        self.ends.clear();
-        self.heads.as_mut_slice().fill(FAR as u16);
+        self.heads.as_mut_slice().fill(NO_HEAD);
     }
 
     /// Appends a gate.
@@ -98,34 +108,30 @@ impl Links {
         ensures room { self.new.room ≡ self.old.room }
     {
         let place = gates.len() as u16;
-        let before = self.before.as_slice();
+        let wire = gate.first_wire();
+        let other = gate.last_wire();
         let heads = self.heads.as_slice();
-        let ends = self.ends.as_slice();
-        let last = last_places(gates, ends, before, heads, gate);
-        let here = Sides {
-            first: place,
-            second: place,
-        };
-        let known = Ends {
-            first: end_in(ends, last.first),
-            second: end_in(ends, last.second),
-        };
-        lead_known(gates, self.next.as_mut_slice(), gate, last, known, here);
+        let first = last_on(gates, self.before.as_slice(), heads, wire);
+        let last = last_on(gates, self.before.as_slice(), heads, other);
+        let next = self.next.as_mut_slice();
+        lead_on(next, first, place);
+        lead_on(next, last, place);
         self.next.push_reserved(Sides {
             first: FAR as u16,
             second: FAR as u16,
         });
-        self.previous.push_reserved(last);
-        let end = gate.last_wire();
-        let one = bucket_in(gate.first_wire(), heads.len());
-        let other = bucket_in(end, heads.len());
-        self.before.push_reserved(Sides {
-            first: heads[one],
-            second: heads[other],
+        self.previous.push_reserved(Sides {
+            first: first.place,
+            second: last.place,
         });
-        self.ends.push_reserved(end);
-        self.heads[one] = place;
-        self.heads[other] = place;
+        let near = bucket_in(wire, heads.len());
+        let far = bucket_in(other, heads.len());
+        self.before.push_reserved(Sides {
+            first: heads[near].place,
+            second: heads[far].place,
+        });
+        self.heads[near] = head_of(gate, place, wire);
+        self.heads[far] = head_of(gate, place, other);
     }
 
     /// Becomes the links of these gates.
@@ -204,59 +210,61 @@ pub(crate) fn side_on(gates: &[Gate], sides: &[Sides], place: u32, wire: u32) ->
     }
 }
 
-// the last places on the wires of a gate
-fn last_places(gates: &[Gate], ends: &[u32], before: &[Sides], heads: &[u16], gate: Gate) -> Sides
+// the last place on the wire, or FAR where there is none, as a head with this wire
+fn last_on(gates: &[Gate], before: &[Sides], heads: &[Head], wire: u32) -> Head
     requires few { length gates.now < FAR }
-    requires ends { ends.now ≡ map last_wire gates.now }
     requires some { 0 < length heads.now }
     requires buckets { length heads.now ≤ 2 * FAR }
     requires befores { length before.now ≡ length gates.now }
     requires before { AreBefore (length heads.now) gates.now before.now }
     requires heads { AreHeads gates.now heads.now }
-    ensures first { IsLastOn gates.now (wire_of false gate) (length gates.now) result.first }
-    ensures second { IsLastOn gates.now (wire_of true gate) (length gates.now) result.second }
+    ensures { IsEndOn gates.now wire result }
 {
-    let wire = gate.first_wire();
-    let other = gate.last_wire();
-    let first = last_on(gates, ends, before, heads, wire) as u16;
-    if wire == other {
-        return Sides {
-            first,
-            second: first,
-        };
+    let head = heads[bucket_in(wire, heads.len())];
+    if (head.wire == wire) | (head.place as usize >= gates.len()) {
+        return head;
     }
-    let second = last_on(gates, ends, before, heads, other) as u16;
-    Sides { first, second }
+    last_before(gates, before, heads.len(), head.place, wire)
 }
 
-// the last place on the wire, or FAR where there is none
-fn last_on(gates: &[Gate], ends: &[u32], before: &[Sides], heads: &[u16], wire: u32) -> u32
+// the same, from the last place in the wire's bucket on back
+fn last_before(gates: &[Gate], before: &[Sides], buckets: usize, from: u16, wire: u32) -> Head
     requires few { length gates.now < FAR }
-    requires ends { ends.now ≡ map last_wire gates.now }
-    requires some { 0 < length heads.now }
-    requires buckets { length heads.now ≤ 2 * FAR }
+    requires some { 0 < buckets }
+    requires buckets { buckets ≤ 2 * FAR }
     requires befores { length before.now ≡ length gates.now }
-    requires before { AreBefore (length heads.now) gates.now before.now }
-    requires heads { AreHeads gates.now heads.now }
-    ensures fits { result ≤ FAR }
-    ensures last { IsLastOn gates.now wire (length gates.now) result }
+    requires before { AreBefore buckets gates.now before.now }
+    requires from { IsLastIn buckets (bucket_of buckets wire) gates.now (length gates.now) from }
+    ensures { IsEndOn gates.now wire result }
 {
-    let bucket = bucket_in(wire, heads.len());
-    let mut place = heads[bucket] as u32;
+    let bucket = bucket_in(wire, buckets);
+    let mut place = from;
     'back: while (place as usize) < gates.len() {
-        let first = gates[place as usize].first_wire();
-        let second = ends[place as usize];
-        if is_either(first, second, wire) {
-            return place;
+        let gate = gates[place as usize];
+        let first = gate.first_wire();
+        if is_either(first, gate.last_wire(), wire) {
+            return head_of(gate, place, wire);
         }
         let earlier = before[place as usize];
-        place = if bucket_in(first, heads.len()) == bucket {
-            earlier.first as u32
+        place = if bucket_in(first, buckets) == bucket {
+            earlier.first
         } else {
-            earlier.second as u32
+            earlier.second
         };
     }
-    FAR
+    NO_HEAD
+}
+
+// the head of a bucket where the gate at the place is the last one, with one of its wires there
+fn head_of(gate: Gate, place: u16, wire: u32) -> Head
+    ensures { IsHeadOf gate place wire result }
+{
+    Head {
+        wire,
+        place,
+        first: gate.first_wire() == wire,
+        last: gate.last_wire() == wire,
+    }
 }
 
 // the bucket of a wire
@@ -281,25 +289,7 @@ fn is_either(first: u32, second: u32, wire: u32) -> bool
     (first ^ wire).min(second ^ wire) == 0
 }
 
-/// The last wires of two gates, or anything where a place has none.
-#[derive(Clone, Copy)]
-pub(crate) struct Ends {
-    first: u32,
-    second: u32,
-}
-
-// the last wire of the gate at the place
-fn end_in(ends: &[u32], place: u16) -> u32
-    ensures { place < length ends.now → result ≡ slice_index ends.now place }
-{
-    if (place as usize) < ends.len() {
-        ends[place as usize]
-    } else {
-        NO_WIRE
-    }
-}
-
-// the same, where the gates are looked at
+// the last wire of the gate at the place, or anything where there is none
 fn end_at(gates: &[Gate], place: u16) -> u32
     ensures { place < length gates.now → result ≡ last_wire (gate_at gates.now place) }
 {
@@ -315,27 +305,13 @@ pub(crate) fn lead_both(slots: &[Gate], sides: &mut [Sides], gate: Gate, at: Sid
     requires { length sides.old ≡ length slots.now }
     ensures { AreLed slots.now gate at to sides.old sides.new }
 {
-    let ends = Ends {
-        first: end_at(slots, at.first),
-        second: end_at(slots, at.second),
-    };
-    lead_known(slots, sides, gate, at, ends, to);
-}
-
-// the same, where the last wires of the gates there are known
-fn lead_known(slots: &[Gate], sides: &mut [Sides], gate: Gate, at: Sides, ends: Ends, to: Sides)
-    requires long { length sides.old ≡ length slots.now }
-    requires first { at.first < length slots.now → ends.first ≡ last_wire (gate_at slots.now at.first) }
-    requires second { at.second < length slots.now → ends.second ≡ last_wire (gate_at slots.now at.second) }
-    ensures { AreLed slots.now gate at to sides.old sides.new }
-{
     let wire = gate.first_wire();
     let other = gate.last_wire();
     lead(
         slots,
         sides,
         at.first as u32,
-        ends.first,
+        end_at(slots, at.first),
         wire,
         to.first as u32,
     );
@@ -346,10 +322,24 @@ fn lead_known(slots: &[Gate], sides: &mut [Sides], gate: Gate, at: Sides, ends: 
         slots,
         sides,
         at.second as u32,
-        ends.second,
+        end_at(slots, at.second),
         other,
         to.second as u32,
     );
+}
+
+// leads on from the last gate on a wire to this place
+fn lead_on(next: &mut [Sides], end: Head, place: u16)
+    ensures led { (one : Bool) → end.place < length next.old → is_on one end ≡ true → side_at one next.new end.place ≡ place }
+    ensures others { (p : ℕ) (one : Bool) → (p ≡ end.place → p < length next.old → is_on one end ≡ true → ⊥) → side_at one next.new p ≡ side_at one next.old p }
+{
+    if (end.place as usize) < next.len() {
+        let sides = next[end.place as usize];
+        next[end.place as usize] = Sides {
+            first: if end.first { place } else { sides.first },
+            second: if end.last { place } else { sides.second },
+        };
+    }
 }
 
 // leads on from the last gate on the wire, whose last wire is `end`, to this place

@@ -1,10 +1,10 @@
-use Rattle.std.proofs.Common.{◌+◌, ◌%◌, length}
+use Rattle.std.proofs.Common.{◌+◌, ◌%◌}
 use Rattle.pq_links.specs.Links.{bucket_of}
 use Rattle.pq_links.proofs.Buckets.{IsBack}
-use Rattle.pq_links.proofs.links.last_on.Given as goal
+use Rattle.pq_links.proofs.links.last_before.Given as goal
 
 abbrev pub invariant-back : goal.invariant-back
-invariant-back l = IsBack (length l.heads) (bucket_of (length l.heads) l.wire) l.gates l.wire l.place
+invariant-back l = IsBack l.buckets (bucket_of l.buckets l.wire) l.gates l.wire l.place
 
 -- places fall, and past the end it is over
 abbrev pub decreases-back : goal.decreases-back

@@ -1,6 +1,6 @@
 use Rattle.std.proofs.Common.{arith}
 use Rattle.pq_links.proofs.Leading.{led_once, led_twice}
-use Rattle.pq_links.proofs.links.lead_known.Goals as goal
+use Rattle.pq_links.proofs.links.lead_both.Goals as goal
 
 pub returns : goal.returns
 returns c =
