@@ -1,5 +1,5 @@
 -- Faults that are known whatever follows.
-use Rattle.std.proofs.Common.{◌≡◌, ℕ, ◌+◌, ◌≤◌, Bool, true, false, ◌&&◌, ◌||◌, eqb, cond, List, [], ◌∷◌, ◌++◌, length, Result, Ok, Err, codes, bytes_eq, refl, sym, ap, ◌∙◌, arith, length-append}
+use Rattle.std.proofs.Common.{◌≡◌, ◌≢◌, ◌⊎◌, ℕ, ◌+◌, ◌<◌, ◌≤◌, Bool, true, false, ◌&&◌, ◌||◌, eqb, cond, List, [], ◌∷◌, ◌++◌, length, Result, Ok, Err, codes, bytes_eq, refl, sym, ap, ◌∙◌, arith, length-append}
 use Rattle.std.proofs.lemmas.Bool.{false≢true}
 use Rattle.std.proofs.lemmas.List.{append_assoc, append-nil}
 use Rattle.pq_lex.specs.declared.token.Form.{Form}
@@ -18,6 +18,7 @@ use Rattle.pq_read.specs.After.{piece_at}
 use Rattle.pq_read.specs.Reads.{is_done, read_tokens}
 use Rattle.pq_read.specs.Gives.{Fails, through}
 use Rattle.pq_read.specs.Leads.{FailsAt, HasFault}
+use Rattle.pq_read.specs.Unknown.{EndsNext, IsUncertain, HasNoKnownFault}
 use Rattle.pq_read.proofs.Circuits.{neither}
 use Rattle.pq_read.proofs.Pieces.{is_closed, read_fault}
 use Rattle.pq_read.proofs.CutWell.{unclosed_refused}
@@ -28,12 +29,13 @@ use Rattle.pq_read.specs.Expected.{after_token, expected_after, behind_first}
 use Rattle.pq_read.proofs.FirstTokens.{piece_same}
 use Rattle.pq_read.proofs.Straying.{barrier_strays}
 
--- From the one position to the other stand tokens that are the same whatever follows, and no `;`, as many as are counted or
--- more. It is known whether they begin a barrier, and what a barrier has next behind them.
+-- From the one position to the other stand tokens that are the same whatever follows, and no `;`, as many as are counted, or
+-- more where they begin a barrier. It is known whether they begin a barrier, and what a barrier has next behind them.
 pub record Walked (E : Env) (p q : Position) (long : Bool) (count : ℕ) (expected : Expected) : Type 0 where
   pub sure : List TokenView
   pub some : 1 ≤ length sure
   pub counted : count ≤ length sure
+  pub exact : long ≡ false → length sure ≤ count
   pub named : long ≡ (E.header && bytes_eq (codes "barrier") (head sure).bytes)
   pub stepped : expected ≡ expected_after E.program.qregs Name (behind_first sure)
   pub unclosed : is_closed sure ≡ false
@@ -54,6 +56,7 @@ walked_first E p q t long inner no_end is same = record {
   sure = t ∷ [];
   some = omega arith;
   counted = omega arith;
+  exact = λ _. omega arith;
   named = is;
   stepped = refl;
   unclosed = ap (λ b. b || false) no_end;
@@ -74,15 +77,16 @@ expected_append regs e [] t some = absurd (omega arith)
 expected_append regs e (u ∷ us) t some = expected_more regs e us t
 
 -- one more token
-pub walked_on : (E : Env) (p q r : Position) (t : TokenView) (long : Bool) (count next : ℕ) (expected later : Expected) → Walked E p q long count expected → is_last t.form ≡ false → is_form Semicolon t ≡ false → next ≤ count + 1 → later ≡ after_token E.program.qregs expected t
+pub walked_on : (E : Env) (p q r : Position) (t : TokenView) (long : Bool) (count next : ℕ) (expected later : Expected) → Walked E p q long count expected → is_last t.form ≡ false → is_form Semicolon t ≡ false → next ≤ count + 1 → (long ≡ false → count + 1 ≤ next) → later ≡ after_token E.program.qregs expected t
     → ((more : List ℕ) → tokens (extended q more) ≡ from_token t (tokens (extended r more))) → Walked E p r long next later
-walked_on E p q r t long count next expected later w inner no_end counts steps same =
+walked_on E p q r t long count next expected later w inner no_end counts few steps same =
     let len : length (w.sure ++ t ∷ []) ≡ length w.sure + 1 = length-append w.sure (t ∷ []) in
     let first : head (w.sure ++ t ∷ []) ≡ head w.sure = head_same w.sure (t ∷ []) w.some in
     record {
       sure = w.sure ++ t ∷ [];
       some = omega arith;
       counted = (let b : count ≤ length w.sure = w.counted in omega arith);
+      exact = λ short. (let b : length w.sure ≤ count = w.exact short in let n : count + 1 ≤ next = few short in omega arith);
       named = w.named ∙ sym (ap (λ (u : TokenView). E.header && bytes_eq (codes "barrier") u.bytes) first);
       stepped = steps ∙ (ap (λ e. after_token E.program.qregs e t) w.stepped ∙ sym (expected_append E.program.qregs Name w.sure t w.some));
       unclosed = closed_append w.sure (t ∷ []) w.unclosed (ap (λ b. b || false) no_end);
@@ -154,6 +158,32 @@ walked_malformed E p q r long count expected w same m options =
     all_known options E p (w.sure ++ m.token ∷ []) (closed_append w.sure (m.token ∷ []) w.unclosed (malformed_unclosed m.token m.malformed))
     (ap (is_form Missing) (head_same w.sure (m.token ∷ []) w.some) ∙ w.inner) (omega arith)
     (λ more. w.same more ∙ ap (λ l. w.sure ++ l) (sym (same more) ∙ m.always more))
+
+-- No fault is known where nothing is,
+pub unknown_first : (E : Env) (p q : Position) → ((more : List ℕ) → tokens (extended q more) ≡ tokens (extended p more)) → EndsNext q ⊎ IsUncertain q → HasNoKnownFault E p
+unknown_first E p q same stops = record {
+  sure = [];
+  left = q;
+  same = λ more. sym (same more);
+  stops = stops;
+  few = λ _. omega arith;
+  straight = λ is. absurd (false≢true (sym (never E.header) ∙ is));
+} where
+  never : (b : Bool) → (b && false) ≡ false
+  never true = refl
+  never false = refl
+
+-- nor behind tokens that tell none.
+pub walked_unknown : (E : Env) (p q r : Position) (long : Bool) (count : ℕ) (expected : Expected) → Walked E p q long count expected → ((more : List ℕ) → tokens (extended r more) ≡ tokens (extended q more))
+    → EndsNext r ⊎ IsUncertain r → (long ≡ false → count < 16) → (long ≡ true → expected ≢ Nothing) → HasNoKnownFault E p
+walked_unknown E p q r long count expected w same stops few straight = record {
+  sure = w.sure;
+  left = r;
+  same = λ more. w.same more ∙ ap (λ l. w.sure ++ l) (sym (same more));
+  stops = stops;
+  few = λ short. (let b : length w.sure ≤ count = w.exact (w.named ∙ short) in let n : count < 16 = few (w.named ∙ short) in omega arith);
+  straight = λ barrier nothing. straight (w.named ∙ barrier) (w.stepped ∙ nothing);
+}
 
 -- what reading answers where a fault is known
 pub known_fails : (error : ReadError) (options : Options) (E : Env) (p : Position) → HasFault options E p → Fails error (read_tokens options E (tokens p)) → FailsAt options E p error

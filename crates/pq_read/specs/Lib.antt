@@ -23,3 +23,4 @@ pub mod Feeding
 pub mod CutWell
 pub mod GateMatrices
 pub mod Expected
+pub mod Unknown

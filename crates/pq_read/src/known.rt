@@ -1,4 +1,4 @@
-ghost use Rattle.std.specs.Prelude.{◌≡◌, ◌+◌, ◌^◌, ◌<◌, ◌≤◌, ◌&&◌, true, length, codes, bytes_eq};
+ghost use Rattle.std.specs.Prelude.{◌≡◌, ◌≢◌, ◌+◌, ◌^◌, ◌<◌, ◌≤◌, ◌&&◌, true, false, length, codes, bytes_eq};
 ghost use Rattle.pq_lex.specs.Lex.{tokens};
 ghost use Rattle.pq_read.specs.declared.program.Options.{Options};
 ghost use Rattle.pq_lex.specs.Token.{seen};
@@ -7,6 +7,7 @@ ghost use Rattle.pq_read.specs.Expected.{is_index as is_index_of, after_token};
 ghost use Rattle.pq_read.specs.Begins.{position_of};
 ghost use Rattle.pq_read.specs.Drafts.{env_of};
 ghost use Rattle.pq_read.specs.Leads.{HasFault, FailsAt};
+ghost use Rattle.pq_read.specs.Unknown.{HasNoKnownFault};
 
 use crate::argument::Span;
 use crate::begun::Begun;
@@ -69,7 +70,8 @@ impl Expected {
     }
 
     fn is_nothing(self) -> bool
-        ensures { result ≡ true → self ≡ Nothing }
+        ensures yes { result ≡ true → self ≡ Nothing }
+        ensures no_other { result ≡ false → self ≢ Nothing }
     {
         matches!(self, Expected::Nothing)
     }
@@ -82,12 +84,27 @@ fn begins_barrier(draft: &Draft, first: &Token) -> bool
     draft.header && is_text(b"barrier", first.bytes)
 }
 
+// Whether so many tokens before a `;`, behind which a barrier has this next, are those of a fault.
+fn is_refused(long: bool, count: u32, expected: Expected) -> bool
+    ensures short { result ≡ true → long ≡ false → ENOUGH ≤ count }
+    ensures long { result ≡ true → long ≡ true → expected ≡ Nothing }
+    ensures few { result ≡ false → long ≡ false → count < ENOUGH }
+    ensures straight { result ≡ false → long ≡ true → expected ≢ Nothing }
+{
+    if long {
+        expected.is_nothing()
+    } else {
+        count >= ENOUGH
+    }
+}
+
 /// Whether what is begun is refused whatever follows it: its tokens end with a malformed one, they are as many as a
 /// statement has that is no barrier, or they begin a barrier and go on as none over these registers does.
 pub fn has_known_fault(draft: &Draft, begun: &Begun) -> bool
     requires column { 1 ≤ begun.now.column }
     requires fits { begun.now.line + (begun.now.column + length begun.now.bytes.items) < 2 ^ 32 }
-    ensures { result ≡ true → (options : Options) → HasFault options (env_of draft.now) (position_of begun.now) }
+    ensures fault { result ≡ true → (options : Options) → HasFault options (env_of draft.now) (position_of begun.now) }
+    ensures none { result ≡ false → HasNoKnownFault (env_of draft.now) (position_of begun.now) }
 {
     let mut lexer = Lexer::at(begun.bytes.as_slice(), begun.line, begun.column);
     let Some(first) = lexer.sure() else {
@@ -100,10 +117,7 @@ pub fn has_known_fault(draft: &Draft, begun: &Begun) -> bool
     let mut count: u32 = 1;
     let mut expected = Expected::Name;
     'tokens: loop {
-        if !long && count >= ENOUGH {
-            return true;
-        }
-        if long && expected.is_nothing() {
+        if is_refused(long, count, expected) {
             return true;
         }
         let Some(token) = lexer.sure() else {
