@@ -7,5 +7,5 @@ pub mod CountUp
 pub mod Replacing
 pub mod Lowering
 pub mod TreeLaws
-pub mod Compacting
+pub mod Flags
 pub mod Backwards

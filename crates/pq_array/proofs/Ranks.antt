@@ -1,6 +1,6 @@
 use Rattle.std.proofs.Common.{◌≡◌, ℕ, Bool, true, false, zero, suc, ◌+◌, ◌-◌, ◌<◌, ◌≤◌, ◌⊎◌, inl, inr, cond, Option, Some, None, List, [], ◌∷◌, ◌++◌, map, length, take, drop, set, get_or, slice_get, min, length-drop, refl, ap, sym, ◌∙◌, arith}
 use Rattle.std.specs.Prelude.{is_some}
-use Rattle.std.proofs.lemmas.List.{take_all, length-take, get_or-take, get_or-drop, get_or_default}
+use Rattle.std.proofs.lemmas.List.{take_all, length-map, length-take, get_or-map, get_or-take, get_or-drop}
 use mir.Val.{bool_byte}
 use Rattle.pq_array.specs.Cells.{live, IsLive, rank}
 
@@ -59,18 +59,19 @@ rank_on {A} cells place step step_is = by (get_or cells place None) refl
     by (Some gate) is = omega (arith, next, rank-suc_live cells place (ap is_some is), step_is ∙ ap (λ (o : Option A). cond (is_some o) 1 0) is)
     by None is = omega (arith, next, rank-suc_dead cells place (gone (get_or cells place None) is), step_is ∙ ap (λ (o : Option A). cond (is_some o) 1 0) is)
 
--- and so by one cell of a part
-pub rank_on_part : {A : Type 0} (cells part : List (Option A)) (from to index : ℕ) (d : Option A) (step : ℕ) → part ≡ take (to - from) (drop from cells) → to ≤ length cells → index < length part →
-    step ≡ cond (is_some (get_or part index d)) 1 0 → rank cells (from + (index + 1)) ≡ rank cells (from + index) + step
+-- and so by one flag of a part
+pub rank_on_part : {A : Type 0} (cells : List (Option A)) (part : List Bool) (from to index : ℕ) (d : Bool) (step : ℕ) → part ≡ take (to - from) (drop from (map is_some cells)) → to ≤ length cells →
+    index < length part → step ≡ cond (get_or part index d) 1 0 → rank cells (from + (index + 1)) ≡ rank cells (from + index) + step
 rank_on_part {A} cells part from to index d step part_is inside lt step_is =
-    let long : length part ≡ min (to - from) (length (drop from cells)) = ap (λ (l : List (Option A)). length l) part_is ∙ length-take (to - from) (drop from cells) in
-    let rest : length (drop from cells) ≡ length cells - from = length-drop from cells in
-    let at : get_or part index d ≡ get_or cells (from + index) None =
-    ap (λ (l : List (Option A)). get_or l index d) part_is
-    ∙ (get_or-take (to - from) (drop from cells) index d (omega arith)
-    ∙ (get_or-drop from cells index d ∙ get_or_default cells (from + index) d None (omega arith))) in
+    let flags = map is_some cells in
+    let long : length part ≡ min (to - from) (length (drop from flags)) = ap (λ (l : List Bool). length l) part_is ∙ length-take (to - from) (drop from flags) in
+    let rest : length (drop from flags) ≡ length cells - from = length-drop from flags ∙ ap (λ (n : ℕ). n - from) (length-map cells is_some) in
+    let at : get_or part index d ≡ is_some (get_or cells (from + index) None) =
+    ap (λ (l : List Bool). get_or l index d) part_is
+    ∙ (get_or-take (to - from) (drop from flags) index d (omega arith)
+    ∙ (get_or-drop from flags index d ∙ get_or-map is_some cells (from + index) None d (omega arith))) in
     let next : rank cells (from + (index + 1)) ≡ rank cells (from + index + 1) = ap (λ (n : ℕ). rank cells n) {x = from + (index + 1)} {y = from + index + 1} (omega arith) in
-    next ∙ rank_on cells (from + index) step (step_is ∙ ap (λ (o : Option A). cond (is_some o) 1 0) at)
+    next ∙ rank_on cells (from + index) step (step_is ∙ ap (λ (b : Bool). cond b 1 0) at)
 
 -- the rank doesn't fall
 pub rank-le : {A : Type 0} (cells : List (Option A)) (p q : ℕ) → p ≤ q → rank cells p ≤ rank cells q

@@ -3,4 +3,4 @@ pub mod Cells
 pub mod Counts
 pub mod Tree
 -- What private functions promise one another.
-pub mod Held
+pub mod Flags

@@ -3,7 +3,6 @@ ghost use Rattle.pq_array.specs.Cells.{live, rank, spliced, IsLive, IsLiveRun, R
 ghost use Rattle.pq_array.specs.Tree.{IsTreeOf};
 
 use crate::WordList;
-use crate::cell::Cell;
 use crate::cells::Cells;
 use crate::tree::{count_again, lower, tree_over};
 use pq_gate::Gate;
@@ -43,12 +42,9 @@ impl GateArray {
         ensures cells { IfOk result (λ array. array ≡ map (λ gate. Some gate) gates.now) }
         ensures live { IfOk result (λ array. live array ≡ gates.now) }
     {
-        let cells = live_cells(alloc, gates)?;
+        let cells = Cells::all_live(alloc, gates)?;
         let words = tree_over(alloc, &cells)?;
-        Ok(GateArray {
-            cells: Cells::of(cells),
-            words,
-        })
+        Ok(GateArray { cells, words })
     }
 
     /// The number of cells.
@@ -116,10 +112,10 @@ impl GateArray {
         if place - earlier > NEAR {
             return self.rank(place);
         }
-        let cells = &self.cells.as_slice()[earlier as usize..place as usize];
+        let flags = &self.cells.flags()[earlier as usize..place as usize];
         let mut rank = before;
-        for cell in cells {
-            rank += u64::from(cell.is_live());
+        for flag in flags {
+            rank += u64::from(*flag);
         }
         rank
     }
@@ -223,7 +219,7 @@ impl GateArray {
         ensures live { live self.new ≡ live self.old }
     {
         self.cells.compact();
-        count_again(&mut self.words, self.cells.as_slice());
+        count_again(&mut self.words, &self.cells);
     }
 
     /// The cells alone, and the words of the tree over them. Word 0 is 0. It copies none.
@@ -246,16 +242,6 @@ impl GateArray {
         words[0] = 0;
         GateArray { cells, words }
     }
-}
-
-/// One live cell for each gate.
-fn live_cells(alloc: Global, gates: &[Gate]) -> Result<Vec<Cell>, OutOfMemory>
-    ensures { IfOk result (λ cells. cells.items ≡ map (λ gate. Some gate) gates.now) }
-{
-    gates
-        .iter()
-        .map(|gate| Cell::of(Some(*gate)))
-        .collect(alloc)
 }
 
 /// An array crosses threads.

@@ -1,56 +1,63 @@
-ghost use Rattle.std.specs.Prelude.{◌≡◌, ℕ, ◌+◌, ◌<◌, ◌≤◌, Some, None, length, map, slice_index, slice_index_or, is_some, All};
-ghost use Rattle.std.specs.List.Sorted.{IsStrictlyIncreasing};
+ghost use Rattle.std.specs.Prelude.{◌≡◌, ℕ, ◌+◌, ◌<◌, ◌≤◌, true, None, Some, length, map, take, slice_index, slice_index_or, is_some, All, IfOk};
 ghost use Rattle.pq_array.specs.Cells.{live, rank, spliced, IsLiveRun, Replaces};
+ghost use Rattle.pq_array.specs.Flags.{cells_of, unmarked, written};
 
-use crate::cell::Cell;
 use pq_gate::Gate;
-use pq_list::crosses_threads;
+use pq_list::{OutOfMemory, crosses_threads};
+use std::alloc::Global;
 use std::marker::Model;
 
-/// The cells of an array alone, without the tree of counts. Contracts see the list of cells. No call
-/// takes memory.
+/// The cells of an array alone, without the tree of counts. Contracts see the list of cells. For each
+/// cell there are a gate and a flag, apart from one another: where the flag is clear, the cell is a
+/// tombstone, and its gate of no use. Only `all_live` takes memory.
 #[derive(Drop)]
 pub struct Cells {
-    items: Vec<Cell>,
+    gates: Vec<Gate>,
+    flags: Vec<bool>,
 }
 
 impl Model for Cells {
-    ghost use Rattle.std.specs.Prelude.{List, Option};
+    ghost use Rattle.std.specs.Prelude.{◌≡◌, List, Option, length};
     ghost use Rattle.pq_gate.specs.declared.gate.Gate.{Gate};
+    ghost use Rattle.pq_array.specs.Flags.{cells_of};
 
     ghost Value = { List (Option Gate) };
 
-    ghost view = { λ a. a.items.items };
+    ghost view = { λ a. cells_of a.gates.items a.flags.items };
+
+    ghost invariant = { λ a. length a.gates.items ≡ length a.flags.items };
 }
 
 impl Cells {
-    /// These cells.
-    pub(crate) fn of(items: Vec<Cell>) -> Cells
-        ensures { result ≡ items.items }
+    /// One live cell for each gate.
+    pub(crate) fn all_live(alloc: Global, gates: &[Gate]) -> Result<Cells, OutOfMemory>
+        ensures { IfOk result (λ cells. cells ≡ map (λ gate. Some gate) gates.now) }
     {
-        Cells { items }
+        let flags = vec![in alloc; true; gates.len()]?;
+        let gates = Vec::from_slice(alloc, gates)?;
+        Ok(Cells { gates, flags })
     }
 
-    /// All cells.
-    pub(crate) fn as_slice(&self) -> &[Cell]
-        ensures { result.now ≡ self.now }
+    /// Which cells are live.
+    pub(crate) fn flags(&self) -> &[bool]
+        ensures { result.now ≡ map is_some self.now }
     {
-        self.items.as_slice()
+        self.flags.as_slice()
     }
 
     /// The number of cells.
     pub(crate) fn count(&self) -> u64
         ensures { result ≡ length self.now }
     {
-        self.items.len() as u64
+        self.flags.len() as u64
     }
 
     /// The gate at this place: None where the place is a tombstone, or isn't that of a cell.
     pub fn gate_at(&self, place: u64) -> Option<Gate>
         ensures { result ≡ slice_index_or self.now place None }
     {
-        if place < self.count() {
-            self.items[place as usize].gate()
+        if self.is_live(place) {
+            Some(self.gates[place as usize])
         } else {
             None
         }
@@ -60,7 +67,7 @@ impl Cells {
     pub(crate) fn is_live(&self, place: u64) -> bool
         ensures { result ≡ is_some (slice_index_or self.now place None) }
     {
-        place < self.count() && self.items[place as usize].is_live()
+        place < self.count() && self.flags[place as usize]
     }
 
     /// Puts the output at the first of these places, in order, and tombstones at the others. The places
@@ -72,27 +79,56 @@ impl Cells {
         ensures live { let first = rank self.old (slice_index places.now 0) in
             live self.new ≡ spliced (live self.old) first (first + length places.now) output.now }
     {
-        put(&mut self.items, places, output);
+        put(&mut self.gates, places, output);
+        clear(&mut self.flags, &places[output.len()..]);
     }
 
     /// Moves the live gates to the first places, in order, and lets the other cells go.
     pub(crate) fn compact(&mut self)
         ensures { self.new ≡ map (λ gate. Some gate) (live self.old) }
     {
-        self.items.retain(|cell| cell.is_live());
+        let count = pack(&mut self.gates, &self.flags);
+        self.gates.truncate(count);
+        self.flags.truncate(count);
+        self.flags.fill(true);
     }
 }
 
-/// Puts the output at the first of these places, in order, and tombstones at the others.
-fn put(cells: &mut [Cell], places: &[u64], output: &[Gate])
-    requires inside { All (λ place. place < length cells.old) places.now }
-    requires in_order { IsStrictlyIncreasing places.now }
+/// Writes the output over the gates at the first of these places, in order.
+#[tactic(auto, using(crate::proofs::Flags::written_all))]
+fn put(gates: &mut [Gate], places: &[u64], output: &[Gate])
+    requires inside { All (λ place. place < length gates.old) places.now }
     requires no_longer { length output.now ≤ length places.now }
-    ensures { Replaces cells.old cells.new places.now output.now }
+    ensures { gates.new ≡ written gates.old places.now output.now }
 {
-    for (number, place) in places.iter().enumerate() {
-        cells[*place as usize] = Cell::of(output.get(number).copied());
+    for (number, gate) in output.iter().enumerate() {
+        gates[places[number] as usize] = *gate;
     }
+}
+
+/// Clears the flags at these places.
+fn clear(flags: &mut [bool], places: &[u64])
+    requires { All (λ place. place < length flags.old) places.now }
+    ensures { flags.new ≡ unmarked flags.old places.now }
+{
+    for place in places {
+        flags[*place as usize] = false;
+    }
+}
+
+/// Moves the gates with a set flag to the first places, in order, and tells their number.
+fn pack(gates: &mut [Gate], flags: &[bool]) -> usize
+    requires { length gates.old ≡ length flags.now }
+    ensures kept { take result gates.new ≡ live (cells_of gates.old flags.now) }
+    ensures no_more { result ≤ length flags.now }
+    ensures size { length gates.new ≡ length gates.old }
+{
+    let mut next = 0;
+    for (place, flag) in flags.iter().enumerate() {
+        gates[next] = gates[place];
+        next += usize::from(*flag);
+    }
+    next
 }
 
 /// Cells cross threads.

@@ -3,7 +3,6 @@
 #![tactic(auto)]
 
 mod array;
-mod cell;
 mod cells;
 mod laws;
 #[cfg(test)]

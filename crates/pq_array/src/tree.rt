@@ -4,25 +4,25 @@ ghost use Rattle.pq_array.specs.Counts.{HalvesTo, IsLowered};
 ghost use Rattle.pq_array.specs.Tree.{IsTreeOf};
 ghost use Rattle.std.specs.Int.{IsNextPowerOfTwo, IsPowerOfTwo};
 
-use crate::cell::Cell;
+use crate::cells::Cells;
 use pq_limits::MAX_GATES;
 use pq_list::OutOfMemory;
 use std::alloc::Global;
 
 /// The words of the tree over these cells.
-pub fn tree_over(alloc: Global, cells: &[Cell]) -> Result<Vec<u64>, OutOfMemory>
+pub fn tree_over(alloc: Global, cells: &Cells) -> Result<Vec<u64>, OutOfMemory>
     requires { length cells.now ≤ MAX_GATES }
     ensures tree { IfOk result (λ words. IsTreeOf cells.now words.items) }
     ensures unused { IfOk result (λ words. slice_index words.items 0 ≡ 0) }
 {
-    let width = cells.len().next_power_of_two();
+    let width = cells.count().next_power_of_two() as usize;
     let mut words = vec![in alloc; 0; 2 * width]?;
     count_up(&mut words, cells);
     Ok(words)
 }
 
 /// Makes the words those of the tree over these cells, where they were those of a tree over no fewer. It takes no memory.
-pub fn count_again(words: &mut Vec<u64>, cells: &[Cell])
+pub fn count_again(words: &mut Vec<u64>, cells: &Cells)
     requires fewer { length cells.now ≤ length words.old.items / 2 }
     requires power { IsPowerOfTwo (length words.old.items / 2) }
     requires pairs { length words.old.items ≡ 2 * (length words.old.items / 2) }
@@ -30,13 +30,13 @@ pub fn count_again(words: &mut Vec<u64>, cells: &[Cell])
     ensures tree { IsTreeOf cells.now words.new.items }
     ensures unused { slice_index words.new.items 0 ≡ 0 }
 {
-    let width = cells.len().next_power_of_two();
+    let width = cells.count().next_power_of_two() as usize;
     words.truncate(2 * width);
     count_up(words, cells);
 }
 
 /// Counts the live cells below each node, from the last leaf to the root.
-fn count_up(words: &mut [u64], cells: &[Cell])
+fn count_up(words: &mut [u64], cells: &Cells)
     requires leaves { IsNextPowerOfTwo (length cells.now) (length words.old / 2) }
     requires pairs { length words.old ≡ 2 * (length words.old / 2) }
     requires unused { slice_index words.old 0 ≡ 0 }
@@ -54,14 +54,11 @@ fn count_up(words: &mut [u64], cells: &[Cell])
 }
 
 /// The word of the leaf of this place, which may be behind the cells.
-fn leaf_word(cells: &[Cell], place: usize) -> u64
+fn leaf_word(cells: &Cells, place: usize) -> u64
     ensures live { IsLive cells.now place → result ≡ 1 }
     ensures not_live { (IsLive cells.now place → ⊥) → result ≡ 0 }
 {
-    match cells.get(place) {
-        Some(cell) => u64::from(cell.is_live()),
-        None => 0,
-    }
+    u64::from(cells.is_live(place as u64))
 }
 
 /// Takes one from each word on the way from the leaf of this place to the root.

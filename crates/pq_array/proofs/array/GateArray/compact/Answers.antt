@@ -7,7 +7,7 @@ use Rattle.pq_array.proofs.array.GateArray.compact.Goals as goal
 
 pub count_again-requires-clause-fewer : goal.count_again-requires-clause-fewer
 count_again-requires-clause-fewer c =
-    omega (arith, ap (λ (x : List (Option Gate)). length x) (c.as_slice.ensures ∙ c.compact.ensures), length-map (live c.self.inside.cells) (λ (gate : Gate). Some gate), length-live-le c.self.inside.cells, c.self.invariant.0.leaves.1)
+    omega (arith, ap (λ (x : List (Option Gate)). length x) c.compact.ensures, length-map (live c.self.inside.cells) (λ (gate : Gate). Some gate), length-live-le c.self.inside.cells, c.self.invariant.0.leaves.1)
 
 pub returns-clause-live : goal.returns-clause-live
 returns-clause-live c = rw (c.compact.ensures, c.self.view_is) (live-map_some (live c.args.self.now))
