@@ -100,7 +100,6 @@ impl Loop {
     /// The loop before its first round over the gates of this list, which becomes its cells: no gate is copied. The first
     /// fingers stand at each multiple of Omega that is less than the number of gates, and overlook nothing. Omega is 2 to
     /// 1,024, and there are at most 1,048,576 gates.
-    #[tactic(auto, using(crate::proofs::Kept::opened_state))]
     pub fn of(
         alloc: Global,
         gates: GateList,
