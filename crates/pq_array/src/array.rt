@@ -5,7 +5,7 @@ ghost use Rattle.pq_array.specs.Tree.{IsTreeOf};
 use crate::WordList;
 use crate::cells::Cells;
 use crate::tree::{count_again, lower, tree_over};
-use pq_gate::Gate;
+use pq_gate::{Gate, GateList};
 use pq_limits::MAX_GATES;
 use pq_list::{OutOfMemory, crosses_threads};
 use std::alloc::Global;
@@ -16,7 +16,8 @@ const NEAR: u64 = 256;
 
 /// Cells that each hold a gate, or are a tombstone where a gate was taken out. Contracts see the list
 /// of cells, and its live gates: those that are left, in order of place. A place is the number of a
-/// cell, counted from 0; the number of cells stands for the end. Only `open` takes memory.
+/// cell, counted from 0; the number of cells stands for the end. Only `open`
+/// and `of` take memory.
 #[derive(Drop)]
 pub struct GateArray {
     cells: Cells,
@@ -36,13 +37,24 @@ impl Model for GateArray {
 }
 
 impl GateArray {
-    /// The array with one live cell for each of at most 1,048,576 gates.
+    /// The array with one live cell for each of at most 1,048,576 gates, which are copied.
     pub fn open(alloc: Global, gates: &[Gate]) -> Result<GateArray, OutOfMemory>
         requires { length gates.now ≤ MAX_GATES }
         ensures cells { IfOk result (λ array. array ≡ map (λ gate. Some gate) gates.now) }
         ensures live { IfOk result (λ array. live array ≡ gates.now) }
     {
-        let cells = Cells::all_live(alloc, gates)?;
+        let copy = Vec::from_slice(alloc, gates)?;
+        GateArray::of(alloc, GateList::of(copy))
+    }
+
+    /// The array with one live cell for each of at most 1,048,576 gates. The memory of the list is that of the cells then:
+    /// no gate is copied.
+    pub fn of(alloc: Global, gates: GateList) -> Result<GateArray, OutOfMemory>
+        requires { length gates.items ≤ MAX_GATES }
+        ensures cells { IfOk result (λ array. array ≡ map (λ gate. Some gate) gates.items) }
+        ensures live { IfOk result (λ array. live array ≡ gates.items) }
+    {
+        let cells = Cells::all_live(alloc, gates.into_vec())?;
         let words = tree_over(alloc, &cells)?;
         Ok(GateArray { cells, words })
     }
@@ -220,6 +232,17 @@ impl GateArray {
     {
         self.cells.compact();
         count_again(&mut self.words, &self.cells);
+    }
+
+    /// The live gates, in order, in the memory of the cells, of which there are at most 1,048,576. No memory is taken, and
+    /// the list has no room for more.
+    pub fn into_gates(self) -> GateList
+        requires few { length self ≤ MAX_GATES }
+        ensures items { result.items ≡ live self }
+        ensures full { result.room ≡ length result.items }
+    {
+        let GateArray { cells, words: _ } = self;
+        GateList::of(cells.into_live())
     }
 
     /// The cells alone, and the words of the tree over them. Word 0 is 0. It copies none.

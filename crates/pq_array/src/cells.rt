@@ -29,12 +29,11 @@ impl Model for Cells {
 }
 
 impl Cells {
-    /// One live cell for each gate.
-    pub(crate) fn all_live(alloc: Global, gates: &[Gate]) -> Result<Cells, OutOfMemory>
-        ensures { IfOk result (λ cells. cells ≡ map (λ gate. Some gate) gates.now) }
+    /// One live cell for each gate. The gates stay in their vector.
+    pub(crate) fn all_live(alloc: Global, gates: Vec<Gate>) -> Result<Cells, OutOfMemory>
+        ensures { IfOk result (λ cells. cells ≡ map (λ gate. Some gate) gates.items) }
     {
         let flags = vec![in alloc; true; gates.len()]?;
-        let gates = Vec::from_slice(alloc, gates)?;
         Ok(Cells { gates, flags })
     }
 
@@ -91,6 +90,17 @@ impl Cells {
         self.gates.truncate(count);
         self.flags.truncate(count);
         self.flags.fill(true);
+    }
+
+    /// The live gates, in order, in the vector in which they stand.
+    pub(crate) fn into_live(self) -> Vec<Gate>
+        ensures { result.items ≡ live self }
+    {
+        let Cells { gates, flags } = self;
+        let mut gates = gates;
+        let left = pack(&mut gates, &flags);
+        gates.truncate(left);
+        gates
     }
 }
 

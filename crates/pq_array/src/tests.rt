@@ -2,7 +2,7 @@ ghost use Rattle.std.specs.Prelude.{◌≡◌, ◌+◌, ◌≤◌, length, IfOk,
 ghost use Rattle.pq_array.specs.Cells.{live, rank, IsLiveRun};
 
 use super::*;
-use pq_gate::Gate;
+use pq_gate::{Gate, GateList};
 use std::alloc::{AllocError, Global};
 use std::process::Abort;
 use std::test::Fail;
@@ -100,6 +100,18 @@ fn three_of_five_gates_are_replaced_by_one(rt: HostRuntime) -> Result<(), Fail> 
     holds(&rt, &array, &[numbered(0), numbered(9), numbered(4)]);
     assert_eq!(rt; array.gate_at(1), Some(numbered(9)));
     words_are(&rt, array, &[0, 3, 2, 1, 1, 1, 1, 0]);
+    Ok(())
+}
+
+#[test]
+fn gates_are_moved_into_an_array_and_out_of_it(rt: HostRuntime) -> Result<(), Fail> {
+    let mut array = GateArray::of(rt.alloc(), GateList::of(gates(rt.alloc(), 5)?))?;
+    assert!(rt; array.live() == 5);
+    let places = run_of(rt.alloc(), &array, 1, 3)?;
+    array.replace(&places, &[numbered(9)]);
+    assert!(rt; array.cells() == 5);
+    let left = array.into_gates();
+    assert!(rt; left.as_slice() == [numbered(0), numbered(9), numbered(4)].as_slice());
     Ok(())
 }
 

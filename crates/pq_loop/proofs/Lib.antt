@@ -14,7 +14,6 @@ pub mod Picking
 pub mod Cutting
 pub mod Numbering
 pub mod Moving
-pub mod Collecting
 pub mod Rejoining
 pub mod Compacting
 pub mod Ends

@@ -1,5 +1,4 @@
-ghost use Rattle.std.specs.Prelude.{◌≡◌, ◌↔◌, ◌+◌, ◌*◌, ◌%◌, ◌<◌, ◌≤◌, ℕ, [], IfOk, IsTrue, length};
-ghost use Rattle.pq_array.specs.Cells.{live};
+ghost use Rattle.std.specs.Prelude.{◌≡◌, ◌↔◌, ◌+◌, ◌*◌, ◌%◌, ◌<◌, ◌≤◌, ℕ, [], IfOk, IsOk, IsTrue, length};
 ghost use Rattle.pq_gate.specs.Circuit.{IsCircuit};
 ghost use Rattle.pq_gate.specs.Matrix.{Same};
 ghost use Rattle.pq_gaps.specs.Gaps.{first_fingers};
@@ -77,9 +76,7 @@ pub struct Finished {
 }
 
 impl Loop {
-    /// The loop before its first round: the first fingers stand at each multiple of Omega that is less than
-    /// the number of gates, and overlook nothing. Omega is 2 to 1,024, and there are at most 1,048,576 gates.
-    #[tactic(auto, using(crate::proofs::Kept::opened_state))]
+    /// The loop before its first round over a copy of these gates, as `of` makes it.
     pub fn open(
         alloc: Global,
         gates: &[Gate],
@@ -96,10 +93,34 @@ impl Loop {
         ensures first_fingers { IfOk result (λ made. made.first_fingers ≡ length (first_fingers (length gates.now) omega)) }
         ensures covered { IfOk result (λ made. IsCovered made) }
     {
+        let copy = Vec::from_slice(alloc, gates)?;
+        Loop::of(alloc, GateList::of(copy), omega, rules)
+    }
+
+    /// The loop before its first round over the gates of this list, which becomes its cells: no gate is copied. The first
+    /// fingers stand at each multiple of Omega that is less than the number of gates, and overlook nothing. Omega is 2 to
+    /// 1,024, and there are at most 1,048,576 gates.
+    pub fn of(
+        alloc: Global,
+        gates: GateList,
+        omega: u32,
+        rules: Rules,
+    ) -> Result<Loop, OutOfMemory>
+        requires omega { IsOmega omega }
+        requires few { length gates.items ≤ MAX_GATES }
+        ensures state { IfOk result (λ made. made.state ≡ first_state omega gates.items) }
+        ensures cells { IfOk result (λ made. made.cells ≡ length gates.items) }
+        ensures omega { IfOk result (λ made. made.omega ≡ omega) }
+        ensures rules { IfOk result (λ made. made.rules ≡ rules) }
+        ensures counts { IfOk result (λ made. (made.rounds ≡ 0) × (made.calls ≡ 0) × (made.phase ≡ 0)) }
+        ensures first_fingers { IfOk result (λ made. made.first_fingers ≡ length (first_fingers (length gates.items) omega)) }
+        ensures covered { IfOk result (λ made. IsCovered made) }
+    {
         // the rows are sound
         let _rows = rules.count();
-        let array = GateArray::open(alloc, gates)?;
-        let fingers = Fingers::first(alloc, gates.len() as u64, omega)?;
+        let count = gates.as_slice().len() as u64;
+        let array = GateArray::of(alloc, gates)?;
+        let fingers = Fingers::first(alloc, count, omega)?;
         let first_fingers = fingers.places().len() as u64;
         Ok(Loop {
             array,
@@ -188,17 +209,17 @@ impl Loop {
     }
 
     /// What is left, where there is no finger any more: no run of at most Omega gates has a redex. There were at most
-    /// as many rounds as calls. Where memory is refused, the loop is spent.
-    pub fn finish(self, alloc: Global) -> Result<Finished, OutOfMemory>
+    /// as many rounds as calls. The gates stay in the memory in which they stand, so that no memory is taken.
+    pub fn finish(self, _alloc: Global) -> Result<Finished, OutOfMemory>
         requires { self.state.fingers ≡ [] }
         ensures gates { IfOk result (λ made. made.gates.items ≡ self.state.gates) }
         ensures counts { IfOk result (λ made. (made.rounds ≡ self.rounds) × (made.calls ≡ self.calls) × (made.phase ≡ self.phase) × (made.first_fingers ≡ self.first_fingers)) }
         ensures local { IfOk result (λ made. Local self.rules self.omega made.gates.items) }
         ensures rounds { IfOk result (λ made. made.rounds ≤ made.calls) }
+        ensures always { IsOk result }
     {
-        let gates = live_gates(alloc, &self.array)?;
         Ok(Finished {
-            gates,
+            gates: self.array.into_gates(),
             rounds: self.rounds,
             calls: self.calls,
             phase: self.phase,
@@ -213,21 +234,4 @@ impl Loop {
     {
         gaps_of(alloc, &self.array, &self.fingers)
     }
-}
-
-/// The gates that are left, in order of place.
-fn live_gates(alloc: Global, array: &GateArray) -> Result<GateList, OutOfMemory>
-    requires { length array.now ≤ MAX_GATES }
-    ensures gates { IfOk result (λ list. list.items ≡ live array.now) }
-
-    // The list has no room for more.
-    ensures full { IfOk result (λ list. list.room ≡ length list.items) }
-{
-    let mut gates = Vec::with_capacity(alloc, array.live() as usize)?;
-    for place in 0..array.cells() {
-        if let Some(gate) = array.gate_at(place) {
-            gates.push_reserved(gate);
-        }
-    }
-    Ok(GateList::of(gates))
 }

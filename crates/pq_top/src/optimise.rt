@@ -119,7 +119,7 @@ pub fn benched<R: Threads + Sync, G: WorkGate>(
 }
 
 // Makes rounds under the built-in rules, from the first fingers until there is no finger, and logs their receipts. The
-// gates are let go before the first round.
+// gates are moved into the loop, and out of it: none is copied.
 fn run_rounds<R: Threads + Sync, G: WorkGate>(
     rt: &R,
     alloc: Global,
@@ -146,8 +146,7 @@ fn run_rounds<R: Threads + Sync, G: WorkGate>(
 
     // its contract says that the rows are sound
     let _count = rules.count();
-    let mut looping = Loop::open(alloc, gates.as_slice(), omega, rules)?;
-    drop(gates);
+    let mut looping = Loop::of(alloc, gates, omega, rules)?;
     'rounds: while !looping.is_done() {
         let (next, _step, receipt) = looping.round(rt, alloc, workers, gate)?;
         log.push(receipt)?;

@@ -1,9 +1,8 @@
-use Rattle.std.proofs.Common.{◌∙◌, List, subst}
-use Rattle.pq_gate.specs.declared.gate.Gate.{Gate}
+use Rattle.std.proofs.Common.{◌∙◌}
 use Rattle.std.specs.Prelude.{IfOk}
 use Rattle.std.proofs.lemmas.Result.{IfOk-weaker}
 use Rattle.pq_rules.specs.Table.{builtin_rows}
-use Rattle.pq_top.proofs.Leading.{IsOnItsWay, first_on_its_way, next_on_its_way, some_finger}
+use Rattle.pq_top.proofs.Leading.{first_on_its_way, next_on_its_way, some_finger}
 use Rattle.pq_top.proofs.Logging.{logging_follows, logged_at_end, on_ok, same_logging}
 use Rattle.pq_top.proofs.Optimising.{IsLeft, left_at_end}
 use Rattle.pq_top.proofs.optimise.run_rounds.Given.{Over}
@@ -12,9 +11,8 @@ use Rattle.pq_top.proofs.optimise.run_rounds.Goals as goal
 pub rounds-init : goal.rounds-init
 rounds-init g c =
     let made = c.in_ok-looping.ensures in
-    subst (λ (gates : List Gate). IsOnItsWay builtin_rows c.args.omega gates c.args.log.now.items c.in_ok-looping.looping c.args.log.now.items) c.as_slice.ensures
-    (first_on_its_way builtin_rows c.args.omega c.as_slice.result.now c.args.log.now.items c.in_ok-looping.looping made.state made.omega
-    (made.rules ∙ c.in_ok-rules.ensures.rows) made.counts made.first_fingers)
+    first_on_its_way builtin_rows c.args.omega c.args.gates.items c.args.log.now.items c.in_ok-looping.looping made.state made.omega
+    (made.rules ∙ c.in_ok-rules.ensures.rows) made.counts made.first_fingers
 
 pub rounds-preserved : goal.rounds-preserved
 rounds-preserved g c =

@@ -1,4 +1,4 @@
-use Rattle.std.proofs.Common.{arith, Option, List, length, Some, ap, ◌∙◌}
+use Rattle.std.proofs.Common.{arith, Option, List, length, Some, ap}
 use Rattle.std.proofs.lemmas.List.{length-map}
 use Rattle.pq_gate.specs.declared.gate.Gate.{Gate}
 use Rattle.pq_array.specs.Cells.{live}
