@@ -113,12 +113,12 @@ back_ends buckets bucket gates wire place head back few past at = record {
 }
 
 -- a bucket's head that is on the wire, or of an empty bucket
-pub head_known : (buckets bucket : ℕ) (gates : List Gate) (wire : ℕ) (head : Head) → bucket ≡ bucket_of buckets wire → IsHead buckets bucket gates head →
+pub head_known : (buckets : ℕ) (gates : List Gate) (wire : ℕ) (head : Head) → IsHead buckets (bucket_of buckets wire) gates head →
     (head.wire ≡ wire) ⊎ (length gates ≤ head.place) → IsEndOn gates wire head
-head_known buckets bucket gates wire head here is either = record {
+head_known buckets gates wire head is either = record {
   last = record {
     uses = λ below. uses below either;
-    none = λ p below behind. not_in buckets (gate_at gates p) wire (λ one in_it. is.last.none p below behind one (in_it ∙ sym here));
+    none = λ p below behind. not_in buckets (gate_at gates p) wire (λ one in_it. is.last.none p below behind one in_it);
     past = is.last.past;
   };
   sides = λ one below. sides one below either;

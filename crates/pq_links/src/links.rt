@@ -3,7 +3,7 @@ ghost use Rattle.pq_gate.specs.Commuting.{Touches};
 ghost use Rattle.pq_gate.specs.Ports.{last_wire};
 ghost use Rattle.pq_links.specs.Wires.{wire_of};
 ghost use Rattle.pq_links.specs.Places.{gate_at};
-ghost use Rattle.pq_links.specs.Links.{bucket_of, side_at, is_on, IsNextOn, IsLastIn, IsEndOn, AreLinked, AreBefore, AreHeads};
+ghost use Rattle.pq_links.specs.Links.{bucket_of, side_at, is_on, IsNextOn, IsLastIn, IsHead, IsEndOn, AreLinked, AreBefore};
 ghost use Rattle.pq_links.specs.Slots.{AreNext};
 ghost use Rattle.pq_links.specs.Leading.{IsHeadOf, AreLed};
 
@@ -111,8 +111,13 @@ impl Links {
         let wire = gate.first_wire();
         let other = gate.last_wire();
         let heads = self.heads.as_slice();
-        let first = last_on(gates, self.before.as_slice(), heads, wire);
-        let last = last_on(gates, self.before.as_slice(), heads, other);
+        let buckets = heads.len();
+        let bucket = bucket_in(wire, buckets);
+        let other_bucket = bucket_in(other, buckets);
+        let head = heads[bucket];
+        let other_head = heads[other_bucket];
+        let first = last_on(gates, self.before.as_slice(), buckets, head, wire);
+        let last = last_on(gates, self.before.as_slice(), buckets, other_head, other);
         let next = self.next.as_mut_slice();
         lead_on(next, first, place);
         lead_on(next, last, place);
@@ -124,14 +129,12 @@ impl Links {
             first: first.place,
             second: last.place,
         });
-        let near = bucket_in(wire, heads.len());
-        let far = bucket_in(other, heads.len());
         self.before.push_reserved(Sides {
-            first: heads[near].place,
-            second: heads[far].place,
+            first: head.place,
+            second: other_head.place,
         });
-        self.heads[near] = head_of(gate, place, wire);
-        self.heads[far] = head_of(gate, place, other);
+        self.heads[bucket] = head_of(gate, place, wire);
+        self.heads[other_bucket] = head_of(gate, place, other);
     }
 
     /// Becomes the links of these gates.
@@ -210,21 +213,20 @@ pub(crate) fn side_on(gates: &[Gate], sides: &[Sides], place: u32, wire: u32) ->
     }
 }
 
-// the last place on the wire, or FAR where there is none, as a head with this wire
-fn last_on(gates: &[Gate], before: &[Sides], heads: &[Head], wire: u32) -> Head
+// the last place on the wire, or FAR where there is none, by the head of the wire's bucket
+fn last_on(gates: &[Gate], before: &[Sides], buckets: usize, head: Head, wire: u32) -> Head
     requires few { length gates.now < FAR }
-    requires some { 0 < length heads.now }
-    requires buckets { length heads.now ≤ 2 * FAR }
+    requires some { 0 < buckets }
+    requires buckets { buckets ≤ 2 * FAR }
     requires befores { length before.now ≡ length gates.now }
-    requires before { AreBefore (length heads.now) gates.now before.now }
-    requires heads { AreHeads gates.now heads.now }
+    requires before { AreBefore buckets gates.now before.now }
+    requires head { IsHead buckets (bucket_of buckets wire) gates.now head }
     ensures { IsEndOn gates.now wire result }
 {
-    let head = heads[bucket_in(wire, heads.len())];
     if (head.wire == wire) | (head.place as usize >= gates.len()) {
         return head;
     }
-    last_before(gates, before, heads.len(), head.place, wire)
+    last_before(gates, before, buckets, head.place, wire)
 }
 
 // the same, from the last place in the wire's bucket on back

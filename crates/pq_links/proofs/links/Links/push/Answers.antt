@@ -17,8 +17,8 @@ returns-clause-linked c =
     let gates = c.args.gates.now in
     let place = length gates in
     let heads = c.args.self.now.heads in
-    let near = c.bucket_in-near.result in
-    let other = c.bucket_in-far.result in
+    let near = c.bucket_in-bucket.result in
+    let other = c.bucket_in-other_bucket.result in
     let first = c.last_on-first.result in
     let last = c.last_on-last.result in
     let old = c.as_mut_slice-next.result.now in
@@ -36,12 +36,12 @@ returns-clause-linked c =
     c.requires.linked (omega (arith, room)) c.first_wire-wire.ensures c.last_wire-other.ensures c.last_on-first.ensures.last c.last_on-last.ensures.last
     (subst (λ (xs : List Sides). AreLed gates c.args.gate lasts (record { first = place; second = place }) xs led) next_is are_led)
     (ap (λ (xs : List Head). length xs) heads_is)
-    (ap (λ (xs : List Head). (head_at xs near).place) heads_is ∙ ap (λ (k : ℕ). (head_at heads k).place) c.bucket_in-near.ensures.is)
-    (ap (λ (xs : List Head). (head_at xs other).place) heads_is ∙ ap (λ (k : ℕ). (head_at heads k).place) c.bucket_in-far.ensures.is)
+    (ap (λ (xs : List Head). (head_at xs near).place) heads_is ∙ ap (λ (k : ℕ). (head_at heads k).place) c.bucket_in-bucket.ensures.is)
+    (ap (λ (xs : List Head). (head_at xs other).place) heads_is ∙ ap (λ (k : ℕ). (head_at heads k).place) c.bucket_in-other_bucket.ensures.is)
     c.head_of.ensures c.head_of-2.ensures
     (c.push_reserved.ensures.items ∙ ap (λ (xs : List Sides). xs ++ (record { first = far; second = far }) ∷ []) (all_written c.self.inside.next.len led c.self.inside.next.items (omega (arith, nexts, mid_long, led_long))))
     (c.push_reserved-2.ensures.items ∙ ap (λ (xs : List Sides). xs ++ lasts ∷ []) (ap (λ (v : LinksView). v.previous) c.self.view_is))
     (c.push_reserved-3.ensures.items ∙ ap (λ (xs : List Sides). xs ++ before ∷ []) (ap (λ (v : LinksView). v.before) c.self.view_is))
     (ap (λ (xs : List Head). set (set xs near c.head_of.result) other c.head_of-2.result) (ap (λ (v : LinksView). v.heads) c.self.view_is)
-    ∙ (ap (λ (k : ℕ). set (set heads k c.head_of.result) other c.head_of-2.result) c.bucket_in-near.ensures.is
-    ∙ ap (λ (k : ℕ). set (set heads (bucket_of buckets c.first_wire-wire.result) c.head_of.result) k c.head_of-2.result) c.bucket_in-far.ensures.is))
+    ∙ (ap (λ (k : ℕ). set (set heads k c.head_of.result) other c.head_of-2.result) c.bucket_in-bucket.ensures.is
+    ∙ ap (λ (k : ℕ). set (set heads (bucket_of buckets c.first_wire-wire.result) c.head_of.result) k c.head_of-2.result) c.bucket_in-other_bucket.ensures.is))
