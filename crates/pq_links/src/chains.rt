@@ -4,7 +4,7 @@ ghost use Rattle.pq_gate.specs.Commuting.{Touches};
 ghost use Rattle.pq_links.specs.Wires.{wire_of};
 ghost use Rattle.pq_links.specs.Places.{gate_at};
 ghost use Rattle.pq_links.specs.Links.{AreLinked, IsLastOn};
-ghost use Rattle.pq_links.specs.Slots.{free_slot, spread, AreSlots, AreChained, IsGap};
+ghost use Rattle.pq_links.specs.Slots.{free_slot, spread, AreSlots, ArePrevious, AreChained, IsGap};
 ghost use Rattle.pq_links.specs.Leading.{doubled, AreSpread};
 
 use crate::links::{FAR, Links, NO_WIRE, Sides, lead_both, next_on, side_on};
@@ -82,6 +82,13 @@ impl Chains {
         ensures { result.now ≡ self.now.next }
     {
         self.next.as_slice()
+    }
+
+    /// For each gate and each of its wires the last place before it on the wire, as `AreChained` says it.
+    pub fn previouses(&self) -> &[Sides]
+        ensures { result.now ≡ self.now.previous }
+    {
+        self.previous.as_slice()
     }
 
     /// The last place before this one whose gate uses the wire, or `FAR` where there is none. The gate at the place has
@@ -261,4 +268,16 @@ fn link(
     next[place as usize] = after;
     previous[place as usize] = before;
     slots[place as usize] = gate;
+}
+
+/// The last place before this one whose gate uses the wire, or `FAR` where there is none. The gate at the place has to
+/// use the wire, which isn't `NO_WIRE`.
+pub fn previous_on(slots: &[Gate], previous: &[Sides], place: u32, wire: u32) -> u32
+    requires long { length previous.now ≡ length slots.now }
+    requires linked { ArePrevious slots.now previous.now }
+    requires place { place < length slots.now }
+    ensures fits { result ≤ FAR }
+    ensures previous { wire ≢ NO_WIRE → Touches (gate_at slots.now place) wire → IsLastOn slots.now wire place result }
+{
+    side_on(slots, previous, place, wire)
 }

@@ -4,5 +4,5 @@
 mod chains;
 mod links;
 
-pub use chains::{Chains, Gap};
+pub use chains::{Chains, Gap, previous_on};
 pub use links::{FAR, Links, NO_WIRE, Sides, next_on};

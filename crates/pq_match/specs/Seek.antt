@@ -11,7 +11,7 @@ use Rattle.pq_rules.specs.Seen.{first_role, last_role, role_on}
 use Rattle.pq_links.specs.Wires.{wire_of}
 use Rattle.pq_links.specs.declared.links.Sides.{Sides}
 use Rattle.pq_links.specs.Links.{far, IsNextOn}
-use Rattle.pq_links.specs.Slots.{no_wire, AreSlots, AreNext}
+use Rattle.pq_links.specs.Slots.{no_wire, AreSlots, AreNext, ArePrevious}
 use Rattle.pq_match.specs.declared.cursors.Cursors.{Cursors}
 use Rattle.pq_match.specs.declared.looked.Looked.{Looked}
 use Rattle.pq_match.specs.declared.redex.Redex.{Redex}
@@ -101,6 +101,11 @@ pub record AreLinkedSlots (slots : List Gate) (ahead : List Sides) : Type 0 wher
   pub are : AreSlots slots
   pub nexts : length ahead ≡ length slots
   pub next : AreNext slots ahead
+
+-- for each gate in the slots and each of its wires the last place before it on the wire
+pub record AreLinkedBack (slots : List Gate) (behind : List Sides) : Type 0 where
+  pub previouses : length behind ≡ length slots
+  pub previous : ArePrevious slots behind
 
 -- Each wire of the pattern's first `count` gates has the wire that it is led to, which isn't that of free slots, and the
 -- least place from `from` on whose gate uses that. Whatever of the three stands before the end does so on its wire.

@@ -1,5 +1,5 @@
-//! The search of one start along the wires, over slots with the next places on the wires. It says how far it looked
-//! and at which wires.
+//! The search of one start along the wires, over slots with the next and the previous places on the wires. It says how
+//! far it looked and at which wires.
 
 ghost use Rattle.std.specs.Prelude.{◌≡◌, ◌≢◌, ℕ, ◌+◌, ◌-◌, ◌<◌, ◌≤◌, length, slice_index, slice_set, true, ◌⊎◌};
 ghost use Rattle.pq_gate.specs.Circuit.{IsCircuit};
@@ -8,7 +8,7 @@ ghost use Rattle.pq_gate.specs.Kind.{kind_of};
 ghost use Rattle.pq_links.specs.Links.{IsNextOn};
 ghost use Rattle.pq_match.specs.Redex.{gate_at};
 ghost use Rattle.pq_match.specs.Search.{IsNext, IsGrown, AreEight};
-ghost use Rattle.pq_match.specs.Seek.{AreLinkedSlots, LooksAtMore, AreLookedAt, IsKnownAt, AreMarked, AreCursors, AreAhead, SeeksFrom, SeeksFull, Seeks, IsRowAt, IsClear, IsSeenAt};
+ghost use Rattle.pq_match.specs.Seek.{AreLinkedSlots, AreLinkedBack, LooksAtMore, AreLookedAt, IsKnownAt, AreMarked, AreCursors, AreAhead, SeeksFrom, SeeksFull, Seeks, IsRowAt, IsClear, IsSeenAt};
 ghost use Rattle.pq_match.specs.Settled.{AreCandidates, IsStill};
 
 use crate::cursors::{Cursors, lead_to, move_on, next_place};
@@ -29,15 +29,17 @@ pub fn seek_from(
     rules: &Rules,
     start: u32,
     looked: &mut Looked,
+    previous: &[Sides],
 ) -> Option<Redex>
     requires linked { AreLinkedSlots gates.now next.now }
     requires start { start < length gates.now }
     requires reach { start < looked.old.reach }
+    requires back { AreLinkedBack gates.now previous.now }
     ensures more { LooksAtMore looked.old looked.new }
     ensures finds { SeeksFrom rules.now gates.now start looked.new result }
 {
     let numbers = rows_ahead(gates, next, rules, start, looked);
-    seek_rows(gates, next, rules, numbers, start, looked)
+    seek_rows(gates, next, rules, numbers, start, looked, previous)
 }
 
 /// The numbers, ascending, of the rows that may have a redex at the start by what is seen next and next but one on the
@@ -81,16 +83,18 @@ pub fn seek_rows(
     numbers: &[u32],
     start: u32,
     looked: &mut Looked,
+    previous: &[Sides],
 ) -> Option<Redex>
     requires linked { AreLinkedSlots gates.now next.now }
     requires start { start < length gates.now }
     requires reach { start < looked.old.reach }
     requires candidates { AreCandidates rules.now gates.now start looked.old numbers.now }
+    requires back { AreLinkedBack gates.now previous.now }
     ensures more { LooksAtMore looked.old looked.new }
     ensures finds { SeeksFrom rules.now gates.now start looked.new result }
 {
     for number in numbers {
-        if let Some(redex) = seek_row(gates, next, rules, *number, start, looked) {
+        if let Some(redex) = seek_row(gates, next, rules, *number, start, looked, previous) {
             return Some(redex);
         }
     }
@@ -145,10 +149,12 @@ fn seek_row(
     number: u32,
     start: u32,
     looked: &mut Looked,
+    previous: &[Sides],
 ) -> Option<Redex>
     requires linked { AreLinkedSlots gates.now next.now }
     requires start { start < length gates.now }
     requires reach { start < looked.old.reach }
+    requires back { AreLinkedBack gates.now previous.now }
     ensures more { LooksAtMore looked.old looked.new }
     ensures finds { Seeks (IsRowAt number start) rules.now gates.now start looked.new result }
 {
@@ -157,8 +163,9 @@ fn seek_row(
     };
     let pattern = row.pattern();
     let cursors = Cursors::new();
-    let Some(places) = choose_by_kind(gates, next, pattern, &[0; 8], 0, &cursors, start, looked)
-    else {
+    let Some(places) = choose_by_kind(
+        gates, next, pattern, &[0; 8], 0, &cursors, start, looked, previous,
+    ) else {
         return None;
     };
     Some(Redex {
@@ -179,6 +186,7 @@ fn choose(
     cursors: &Cursors,
     place: u32,
     looked: &mut Looked,
+    previous: &[Sides],
 ) -> Option<[u32; 8]>
     requires linked { AreLinkedSlots gates.now next.now }
     requires short { length pattern.now ≤ MAX_ROW_GATES }
@@ -195,6 +203,7 @@ fn choose(
     requires marked { AreMarked gates.now looked.old cursors.now }
     requires near { place < looked.old.reach }
     requires known { IsKnownAt gates.now (slice_index (slice_set places.now count place) 0) looked.old place }
+    requires back { AreLinkedBack gates.now previous.now }
     ensures more { LooksAtMore looked.old looked.new }
     ensures finds { SeeksFull gates.now pattern.now looked.new (slice_set places.now count place) (count + 1) result }
 {
@@ -210,7 +219,16 @@ fn choose(
     let mut moved = *cursors;
     move_on(gates, next, &mut moved, place);
     lead_to(gates, next, &mut moved, pattern[count], place);
-    seek(gates, next, pattern, &grown, count + 1, &moved, looked)
+    seek(
+        gates,
+        next,
+        pattern,
+        &grown,
+        count + 1,
+        &moved,
+        looked,
+        previous,
+    )
 }
 
 // The same, where the kind of the gate is looked at first.
@@ -225,6 +243,7 @@ fn choose_by_kind(
     cursors: &Cursors,
     place: u32,
     looked: &mut Looked,
+    previous: &[Sides],
 ) -> Option<[u32; 8]>
     requires linked { AreLinkedSlots gates.now next.now }
     requires short { length pattern.now ≤ MAX_ROW_GATES }
@@ -240,13 +259,16 @@ fn choose_by_kind(
     requires marked { AreMarked gates.now looked.old cursors.now }
     requires near { place < looked.old.reach }
     requires known { IsKnownAt gates.now (slice_index (slice_set places.now count place) 0) looked.old place }
+    requires back { AreLinkedBack gates.now previous.now }
     ensures more { LooksAtMore looked.old looked.new }
     ensures finds { SeeksFull gates.now pattern.now looked.new (slice_set places.now count place) (count + 1) result }
 {
     if !are_of_one_kind(gates[place as usize], pattern[count]) {
         return None;
     }
-    choose(gates, next, pattern, places, count, cursors, place, looked)
+    choose(
+        gates, next, pattern, places, count, cursors, place, looked, previous,
+    )
 }
 
 // Chooses the least places for the gates of the pattern that have none yet.
@@ -259,6 +281,7 @@ fn seek(
     count: usize,
     cursors: &Cursors,
     looked: &mut Looked,
+    previous: &[Sides],
 ) -> Option<[u32; 8]>
     requires linked { AreLinkedSlots gates.now next.now }
     requires short { length pattern.now ≤ MAX_ROW_GATES }
@@ -271,18 +294,21 @@ fn seek(
     requires ahead { AreAhead (slice_index places.now (count - 1) + 1) cursors.now }
     requires looked { AreLookedAt gates.now looked.old places.now count }
     requires marked { AreMarked gates.now looked.old cursors.now }
+    requires back { AreLinkedBack gates.now previous.now }
     ensures more { LooksAtMore looked.old looked.new }
     ensures finds { SeeksFull gates.now pattern.now looked.new places.now count result }
 {
     let mut moved = *cursors;
-    let Some(free) = tie(gates, next, pattern, places, count, &mut moved, looked) else {
+    let Some(free) = tie(
+        gates, next, pattern, places, count, &mut moved, looked, previous,
+    ) else {
         return None;
     };
     let mut place = next_place(gates, &moved, free, pattern[count], places[count - 1] + 1);
     looked.look_at(place);
     'walk: while (place as usize) < gates.len() {
         if let Some(found) = choose_by_kind(
-            gates, next, pattern, places, count, &moved, place, looked,
+            gates, next, pattern, places, count, &moved, place, looked, previous,
         ) {
             return Some(found);
         }

@@ -178,12 +178,13 @@ fn try_start(
     let _sound = rules.count();
     let mut looked = Looked::at(start);
     let next = chains.nexts();
+    let previous = chains.previouses();
     let numbers = rows_ahead(slots, next, rules, start, &mut looked);
     if numbers.is_empty() {
         starts.settle(start);
         return None;
     }
-    let Some(first) = seek_rows(slots, next, rules, numbers, start, &mut looked) else {
+    let Some(first) = seek_rows(slots, next, rules, numbers, start, &mut looked, previous) else {
         starts.settle_failed(start, looked);
         return None;
     };

@@ -34,9 +34,11 @@ fn first_redex(seg: &Seg, rules: &Rules) -> Option<Redex>
     if !seg.taken {
         return find_within(gates, rules, count);
     }
+    let next = seg.links.nexts();
+    let previous = seg.links.previouses();
     for start in 0..count {
         let mut looked = Looked::at(start);
-        if let Some(first) = seek_from(gates, seg.links.nexts(), rules, start, &mut looked) {
+        if let Some(first) = seek_from(gates, next, rules, start, &mut looked, previous) {
             return Some(first);
         }
     }

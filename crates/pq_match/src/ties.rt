@@ -7,7 +7,7 @@ ghost use Rattle.pq_links.specs.Wires.{wire_of};
 ghost use Rattle.pq_links.specs.Links.{IsNextOn};
 ghost use Rattle.pq_match.specs.Redex.{gate_at};
 ghost use Rattle.pq_match.specs.Search.{IsGrown};
-ghost use Rattle.pq_match.specs.Seek.{AreLinkedSlots, LooksAtMore, MarksAll, AreLookedAt, HasNoFullAlike, AreCursors, AreAhead, AreMarked};
+ghost use Rattle.pq_match.specs.Seek.{AreLinkedSlots, AreLinkedBack, LooksAtMore, MarksAll, AreLookedAt, HasNoFullAlike, AreCursors, AreAhead, AreMarked};
 ghost use Rattle.pq_match.specs.Ties.{IsShared, AreUnshared, IsBinding, MayBind, IsStop, IsTiedBy};
 
 use crate::cursors::Cursors;
@@ -15,7 +15,7 @@ use crate::looked::Looked;
 use crate::search::{are_of_one_kind, is_passable};
 use pq_gate::Gate;
 use pq_limits::MAX_ROW_GATES;
-use pq_links::{NO_WIRE, Sides, next_on};
+use pq_links::{NO_WIRE, Sides, next_on, previous_on};
 
 /// A later gate of a pattern that binds a gate which shares no wire with those before it: it stands on a wire of both.
 /// That of the gates before it is its last, or else its first.
@@ -35,6 +35,7 @@ pub fn tie(
     count: usize,
     cursors: &mut Cursors,
     looked: &mut Looked,
+    previous: &[Sides],
 ) -> Option<bool>
     requires linked { AreLinkedSlots gates.now next.now }
     requires short { length pattern.now ≤ MAX_ROW_GATES }
@@ -46,6 +47,7 @@ pub fn tie(
     requires ahead { AreAhead (slice_index places.now (count - 1) + 1) cursors.old }
     requires marked { AreMarked gates.now looked.old cursors.old }
     requires looked { AreLookedAt gates.now looked.old places.now count }
+    requires back { AreLinkedBack gates.now previous.now }
     ensures more { LooksAtMore looked.old looked.new }
     ensures none { IfNone result (HasNoFullAlike gates.now pattern.now looked.new places.now count) }
     ensures free { IfSome result (λ free. free ≡ true → MarksAll looked.new.mask) }
@@ -92,7 +94,7 @@ pub fn tie(
     let new = side_wire(of_gate, !binding.last) as usize;
     looked.mark(to);
     cursors.wires[new] = to;
-    cursors.next[new] = first_on(gates, to, from, stop);
+    cursors.next[new] = first_on(gates, previous, to, from, stop);
     Some(false)
 }
 
@@ -220,18 +222,20 @@ fn first_stop(
     place
 }
 
-// the first place on the wire, which the gate at the end uses
-fn first_on(gates: &[Gate], wire: u32, from: u32, end: u32) -> u32
-    requires few { length gates.now < 4294967295 }
+// the first place on the wire, which the gate at the end uses, found backwards from there
+fn first_on(gates: &[Gate], previous: &[Sides], wire: u32, from: u32, end: u32) -> u32
+    requires back { AreLinkedBack gates.now previous.now }
     requires from { from ≤ end }
     requires end { end < length gates.now }
+    requires wire { wire ≢ NO_WIRE }
     requires uses { Touches (gate_at gates.now end) wire }
     ensures { IsNextOn gates.now wire from result }
 {
-    for place in from..end {
-        if gates[place as usize].touches(wire) {
-            return place;
-        }
+    let mut place = end;
+    let mut before = previous_on(gates, previous, place, wire);
+    'back: while from <= before && before < place {
+        place = before;
+        before = previous_on(gates, previous, place, wire);
     }
-    end
+    place
 }

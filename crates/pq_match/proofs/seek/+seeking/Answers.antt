@@ -62,7 +62,7 @@ choose-seek-requires t c =
                     (
                       subst (λ (p : ℕ). AreCursors c.args.gates.now c.args.pattern.now (set c.args.places.now c.args.count c.args.place) (c.args.count + 1) (p + 1) c.lead_to.new.cursors) (sym last)
                           (cursors_led moved taken c.lead_to.ensures.led fits c.requires.eight room),
-                      (subst (λ (p : ℕ). AreAhead (p + 1) c.lead_to.new.cursors) (sym last) ahead, (looked_at, marked)),
+                      (subst (λ (p : ℕ). AreAhead (p + 1) c.lead_to.new.cursors) (sym last) ahead, (looked_at, (marked, c.requires.back))),
                     ),
                   ),
                 ),
@@ -133,8 +133,11 @@ seek-choose_by_kind-requires t c = (
                           c.walk.invariant.marked,
                           (
                             c.walk.invariant.seen,
-                            place_known c.in-Some.free c.requires.linked.are c.requires.on_wires c.requires.next c.walk.invariant.cursors c.walk.invariant.marked c.requires.some c.requires.eight (omega arith)
-                                c.walk.invariant.walked c.walk-test.true c.walk.invariant.seen c.walk.invariant.wide c.walk.invariant.stands,
+                            (
+                              place_known c.in-Some.free c.requires.linked.are c.requires.on_wires c.requires.next c.walk.invariant.cursors c.walk.invariant.marked c.requires.some c.requires.eight (omega arith)
+                                  c.walk.invariant.walked c.walk-test.true c.walk.invariant.seen c.walk.invariant.wide c.walk.invariant.stands,
+                              c.requires.back,
+                            ),
                           ),
                         ),
                       ),

@@ -46,6 +46,12 @@ returns-then-not-may_bind-clause-none c =
 pub returns-then-not-may_bind-clause-marked : goal.returns-then-not-may_bind-clause-marked
 returns-then-not-may_bind-clause-marked c = marked_more c.first_stop-stop.ensures.more c.requires.marked
 
+pub first_on-requires-clause-wire : goal.first_on-requires-clause-wire
+first_on-requires-clause-wire c =
+    subst (λ (w : ℕ). w ≢ no_wire) (sym c.side_wire-to.ensures) (taken_side c.args.gates.now _ c.first_stop-stop.result (not c.in-Some-binding_of.binding.last) c.requires.linked.are (omega arith)
+    (subst (λ (v : ℕ). get_or c.args.cursors.now.wires v 0 ≢ no_wire) (sym c.side_wire-used.ensures) (used_next c.in-Some-binding_of.ensures c.requires.cursors c.requires.looked).0)
+    (c.first_stop-stop.ensures.stop.uses (omega arith)))
+
 pub returns-clause-more : goal.returns-clause-more
 returns-clause-more c = looks_on c.first_stop-stop.ensures.more c.mark.ensures.more
 
