@@ -100,12 +100,7 @@ impl Loop {
     /// The loop before its first round over the gates of this list, which becomes its cells: no gate is copied. The first
     /// fingers stand at each multiple of Omega that is less than the number of gates, and overlook nothing. Omega is 2 to
     /// 1,024, and there are at most 1,048,576 gates.
-    pub fn of(
-        alloc: Global,
-        gates: GateList,
-        omega: u32,
-        rules: Rules,
-    ) -> Result<Loop, OutOfMemory>
+    pub fn of(alloc: Global, gates: GateList, omega: u32, rules: Rules) -> Result<Loop, OutOfMemory>
         requires omega { IsOmega omega }
         requires few { length gates.items ≤ MAX_GATES }
         ensures state { IfOk result (λ made. made.state ≡ first_state omega gates.items) }
