@@ -32,8 +32,11 @@ pub mod SearchAdmits
 pub mod SearchWithin
 pub mod Roles
 pub mod Admitting
+pub mod LaneMatch
 pub mod Taken
 pub mod SeekRow
+pub mod LaneAlike
+pub mod LaneRows
 pub mod Starting
 pub mod RewritingTests
 pub mod Ranks

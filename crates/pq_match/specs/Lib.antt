@@ -20,3 +20,4 @@ pub mod Search
 pub mod Waiting
 pub mod Settled
 pub mod Within
+pub mod Ahead

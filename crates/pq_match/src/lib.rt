@@ -1,6 +1,7 @@
 //! The first redex of a list of gates, and rewriting it.
 #![tactic(auto)]
 
+mod ahead;
 mod cursors;
 mod exchange;
 pub mod laws;

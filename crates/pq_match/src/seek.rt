@@ -1,16 +1,20 @@
 //! The search of one start along the wires, over slots with the next and the previous places on the wires. It says how
 //! far it looked and at which wires.
 
-ghost use Rattle.std.specs.Prelude.{◌≡◌, ◌≢◌, ℕ, ◌+◌, ◌-◌, ◌<◌, ◌≤◌, length, slice_index, slice_set, true, ◌⊎◌};
+ghost use Rattle.std.specs.Prelude.{◌≡◌, ◌≢◌, ℕ, ◌+◌, ◌-◌, ◌<◌, ◌≤◌, length, slice_index, slice_set, true, false, All, ◌⊎◌};
 ghost use Rattle.pq_gate.specs.Circuit.{IsCircuit};
 ghost use Rattle.pq_gate.specs.Commuting.{Touches};
 ghost use Rattle.pq_gate.specs.Kind.{kind_of};
 ghost use Rattle.pq_links.specs.Links.{IsNextOn};
+ghost use Rattle.pq_links.specs.Wires.{wire_of};
+ghost use Rattle.pq_rules.specs.Row.{IsSound};
+ghost use Rattle.pq_match.specs.Ahead.{IsLaneAlike};
 ghost use Rattle.pq_match.specs.Redex.{gate_at};
 ghost use Rattle.pq_match.specs.Search.{IsNext, IsGrown, AreEight};
 ghost use Rattle.pq_match.specs.Seek.{AreLinkedSlots, AreLinkedBack, LooksAtMore, AreLookedAt, IsKnownAt, AreMarked, AreCursors, AreAhead, SeeksFrom, SeeksFull, Seeks, IsRowAt, IsClear, IsSeenAt};
 ghost use Rattle.pq_match.specs.Settled.{AreCandidates, IsStill};
 
+use crate::ahead::{lane_on_first, lane_on_last};
 use crate::cursors::{Cursors, lead_to, move_on, next_place};
 use crate::looked::Looked;
 use crate::redex::Redex;
@@ -19,7 +23,7 @@ use crate::ties::tie;
 use pq_gate::{Gate, Ports};
 use pq_limits::MAX_ROW_GATES;
 use pq_links::{FAR, NO_WIRE, Sides, next_on};
-use pq_rules::{Rules, Sight};
+use pq_rules::{Lane, Rules, Sight};
 
 /// The first redex of the slots whose first place is the start, and what the search looked at, beside what is noted already.
 #[tactic(auto, using(crate::proofs::Marking::looks_on, crate::proofs::Marking::near_more))]
@@ -75,7 +79,7 @@ pub fn rows_ahead<'a>(
 }
 
 /// The first redex whose first place is the start, where these are the numbers of the rows that may have one there.
-#[tactic(auto, using(crate::proofs::SeekRow::none_tried_alike))]
+#[tactic(auto, using(crate::proofs::LaneRows::none_tried_more, crate::proofs::LaneAlike::lane_more, crate::proofs::Marking::looks_on, crate::proofs::Marking::near_more))]
 pub fn seek_rows(
     gates: &[Gate],
     next: &[Sides],
@@ -93,16 +97,50 @@ pub fn seek_rows(
     ensures more { LooksAtMore looked.old looked.new }
     ensures finds { SeeksFrom rules.now gates.now start looked.new result }
 {
+    let _sound = rules.count();
+    let last = lane_on_last(gates, next, start, looked);
+    let first = lane_on_first(gates, next, start, looked);
     for number in numbers {
-        if let Some(redex) = seek_row(gates, next, rules, *number, start, looked, previous) {
+        if let Some(redex) = try_row(
+            gates, next, rules, *number, start, &last, &first, looked, previous,
+        ) {
             return Some(redex);
         }
     }
     None
 }
 
-// the next place on the wire behind this one, or FAR where this one is past the end
-fn place_behind(gates: &[Gate], next: &[Sides], place: u32, wire: u32) -> u32
+// the first of these redexes that are of this row, where what stands on the wires behind the start admits one
+#[tactic(auto, using(crate::proofs::LaneRows::ruled_out))]
+fn try_row(
+    gates: &[Gate],
+    next: &[Sides],
+    rules: &Rules,
+    number: u32,
+    start: u32,
+    last: &Lane,
+    first: &Lane,
+    looked: &mut Looked,
+    previous: &[Sides],
+) -> Option<Redex>
+    requires linked { AreLinkedSlots gates.now next.now }
+    requires start { start < length gates.now }
+    requires reach { start < looked.old.reach }
+    requires sound { All IsSound rules.now }
+    requires back { AreLinkedBack gates.now previous.now }
+    requires last { IsLaneAlike gates.now (wire_of true (gate_at gates.now start)) start looked.old last.now }
+    requires first { IsLaneAlike gates.now (wire_of false (gate_at gates.now start)) start looked.old first.now }
+    ensures more { LooksAtMore looked.old looked.new }
+    ensures finds { Seeks (IsRowAt number start) rules.now gates.now start looked.new result }
+{
+    if !rules.may_begin(number, last, first) {
+        return None;
+    }
+    seek_row(gates, next, rules, number, start, looked, previous)
+}
+
+/// The next place on the wire behind this one, or FAR where this one is past the end.
+pub(crate) fn place_behind(gates: &[Gate], next: &[Sides], place: u32, wire: u32) -> u32
     requires linked { AreLinkedSlots gates.now next.now }
     requires wire { wire ≢ NO_WIRE }
     requires uses { place < length gates.now → Touches (gate_at gates.now place) wire }

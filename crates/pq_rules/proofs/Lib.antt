@@ -2,6 +2,7 @@ pub mod BoundLaws
 mod ColumnLaws
 mod FaultLaws
 mod KindLaws
+mod LaneLaws
 pub mod LiftLaws
 mod PairLaws
 pub mod SeenLaws

@@ -6,6 +6,7 @@ use Rattle.pq_gate.specs.declared.role.Role.{Role}
 use Rattle.pq_gate.specs.declared.role.Role.TheVariants as role
 use Rattle.pq_gate.specs.declared.role.TheConstants.{ROLES}
 use Rattle.pq_gate.specs.Role.{role_number}
+use Rattle.pq_rules.specs.declared.seen.Seen.{Seen}
 use Rattle.pq_rules.specs.declared.seen.Seen.TheVariants as seen
 use Rattle.pq_rules.specs.declared.seen.TheConstants.{SEEN}
 use Rattle.pq_rules.specs.Seen.{role_on, seen_number}
@@ -43,3 +44,8 @@ number_seen (suc (suc (suc (suc (suc (suc (suc (suc zero)))))))) below = refl
 number_seen (suc (suc (suc (suc (suc (suc (suc (suc (suc zero))))))))) below = refl
 number_seen (suc (suc (suc (suc (suc (suc (suc (suc (suc (suc zero)))))))))) below = refl
 number_seen (suc (suc (suc (suc (suc (suc (suc (suc (suc (suc (suc n))))))))))) below = absurd (omega arith)
+
+pub seen_of_number : (s : Seen) → seen_at (seen_number s) ≡ s
+seen_of_number seen.Nothing = refl
+seen_of_number seen.Unclear = refl
+seen_of_number (seen.Plays own) = role_seen_at own

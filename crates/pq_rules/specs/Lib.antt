@@ -4,6 +4,7 @@ pub mod Bounds
 pub mod Columns
 pub mod Fault
 pub mod Kinds
+pub mod Lanes
 pub mod Pairs
 pub mod Renaming
 pub mod Row

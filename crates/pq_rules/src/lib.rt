@@ -4,6 +4,8 @@
 mod check;
 mod column;
 mod compare;
+mod demand;
+mod lane;
 pub mod laws;
 #[cfg(test)]
 mod near_misses;
@@ -14,6 +16,7 @@ mod sight;
 mod table;
 
 pub use check::check_row;
+pub use lane::Lane;
 pub use row::{RawRow, Row, RowFault};
 pub use rules::{BUILTIN_ROWS, MAX_ROWS, Rules};
 pub use seen::Seen;

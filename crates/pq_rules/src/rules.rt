@@ -2,12 +2,15 @@ ghost use Rattle.std.specs.Prelude.{◌≡◌, ℕ, ◌+◌, ◌<◌, ◌≤◌,
 ghost use Rattle.std.specs.Option.{option_copied};
 ghost use Rattle.pq_gate.specs.Kind.{kind_of, number_of};
 ghost use Rattle.pq_rules.specs.Kinds.{begins, numbers_starting, numbers_where, row_numbered};
+ghost use Rattle.pq_rules.specs.Lanes.{admits_begin, demands};
 ghost use Rattle.pq_rules.specs.Seen.{is_admitting, entry_of};
 ghost use Rattle.pq_rules.specs.declared.seen.Seen.{Seen};
 ghost use Rattle.pq_rules.specs.Row.{RowView, IsSound};
 ghost use Rattle.pq_rules.specs.Shapes.{rule_row};
 ghost use Rattle.pq_rules.specs.Table.{builtin_rows};
 
+use crate::demand::{Demands, are_met, demands_on};
+use crate::lane::Lane;
 use crate::row::{RawRow, Row};
 use crate::seen::{SEEN, Seen, is_admitted, seen_numbered};
 use crate::sight::{Sight, kind_number};
@@ -44,6 +47,9 @@ pub struct Rules {
 
     // by the same, whether there is such a row
     admitted: Vec<bool>,
+
+    // by the place of a row: what its pattern asks of the wires of its first gate
+    ahead: Vec<Demands>,
 }
 
 impl Model for Rules {
@@ -52,7 +58,8 @@ impl Model for Rules {
 
     ghost Value = { List RowView };
 
-    ghost use Rattle.std.specs.Prelude.{◌≡◌, ◌<◌, ◌≤◌, Bool, false, [], All, slice_index_or, vec_len};
+    ghost use Rattle.std.specs.Prelude.{◌≡◌, ◌<◌, ◌≤◌, Bool, false, [], All, map, slice_index_or, vec_len};
+    ghost use Rattle.pq_rules.specs.Lanes.{demands};
     ghost use Rattle.pq_gate.specs.declared.kind.TheConstants.{KINDS};
     ghost use Rattle.pq_rules.specs.Kinds.{numbers_starting, numbers_where};
     ghost use Rattle.pq_rules.specs.Seen.{is_admitting, entry_of};
@@ -69,7 +76,8 @@ impl Model for Rules {
         ((k : ℕ) (near far : Seen) (d : _) → k < KINDS →
         (slice_index_or a.admitting.items (entry_of k near far) d).items ≡ numbers_where (is_admitting k near far) 1 a.rows.items) ×
         (vec_len a.admitted ≡ ENTRIES) ×
-        ((entry : ℕ) (d : _) (e : Bool) → entry < ENTRIES → slice_index_or a.admitted.items entry e ≡ false → (slice_index_or a.admitting.items entry d).items ≡ []) };
+        ((entry : ℕ) (d : _) (e : Bool) → entry < ENTRIES → slice_index_or a.admitted.items entry e ≡ false → (slice_index_or a.admitting.items entry d).items ≡ []) ×
+        (a.ahead.items ≡ map demands a.rows.items) };
 }
 
 impl Rules {
@@ -94,6 +102,7 @@ impl Rules {
             starting: _,
             admitting: _,
             admitted: _,
+            ahead: _,
         } = self;
         let mut extra = extra;
         rows.append(&mut extra)?;
@@ -108,12 +117,14 @@ impl Rules {
         let starting = index_of(alloc, rows.as_slice())?;
         let admitting = table_of(alloc, rows.as_slice())?;
         let admitted = noted(alloc, admitting.as_slice())?;
+        let ahead = ahead_of(alloc, rows.as_slice())?;
         rows_are_sound(rows.as_slice());
         Ok(Rules {
             rows,
             starting,
             admitting,
             admitted,
+            ahead,
         })
     }
 
@@ -165,6 +176,21 @@ impl Rules {
             return &[];
         }
         numbers.as_slice()
+    }
+
+    /// Whether the row with this number may have a redex at a gate with these lanes on its last and on its first wire. False where
+    /// there is no such row.
+    #[tactic(auto, using(crate::proofs::LaneLaws::met_numbered, crate::proofs::LaneLaws::none_numbered))]
+    pub fn may_begin(&self, number: u32, last: &Lane, first: &Lane) -> bool
+        ensures { result ≡ admits_begin (row_numbered self.now number) last.now first.now }
+    {
+        if number == 0 {
+            return false;
+        }
+        match self.ahead.get(number as usize - 1) {
+            Some(asked) => are_met(asked, last, first),
+            None => false,
+        }
     }
 }
 
@@ -286,6 +312,17 @@ fn noted(alloc: Global, table: &[Vec<u32>]) -> Result<Vec<bool>, OutOfMemory>
         noted.push_reserved(!table[entry].is_empty());
     }
     Ok(noted)
+}
+
+// what the patterns of these rows ask
+fn ahead_of(alloc: Global, rows: &[Row]) -> Result<Vec<Demands>, OutOfMemory>
+    ensures { IfOk result (λ ahead. ahead.items ≡ map demands rows.now) }
+{
+    let mut ahead = Vec::with_capacity(alloc, rows.len())?;
+    for row in rows {
+        ahead.push_reserved(demands_on(row.pattern()));
+    }
+    Ok(ahead)
 }
 
 // the rows of rules of the table

@@ -61,8 +61,8 @@ fn role_behind(gate: Gate) -> Role
     }
 }
 
-// whether both roles act along one axis
-fn act_alike(one: Role, other: Role) -> bool
+/// Whether both roles act along one axis.
+pub(crate) fn act_alike(one: Role, other: Role) -> bool
     ensures { result ≡ agree one other }
 {
     (one.acts_along(Axis::Z) && other.acts_along(Axis::Z))
@@ -103,8 +103,8 @@ fn first_on(gates: &[Gate], wire: u32) -> Option<(usize, Role)>
     None
 }
 
-// the first two roles on the wire
-fn first_two(gates: &[Gate], wire: u32) -> (Option<Role>, Option<Role>)
+/// The first two roles on the wire.
+pub(crate) fn first_two(gates: &[Gate], wire: u32) -> (Option<Role>, Option<Role>)
     ensures { AreFirstTwo wire gates.now result.0 result.1 }
 {
     let Some((number, next)) = first_on(gates, wire) else {

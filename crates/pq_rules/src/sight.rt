@@ -3,7 +3,10 @@
 ghost use Rattle.std.specs.Prelude.{◌≡◌, ◌<◌, ◌≤◌, ◌==◌, nat_le};
 ghost use Rattle.pq_gate.specs.Kind.{kind_of, number_of, rank_of};
 ghost use Rattle.pq_gate.specs.Role.{role_number};
+ghost use Rattle.pq_gate.specs.declared.role.Axis.TheVariants as axis;
+ghost use Rattle.pq_rules.specs.Lanes.{seen_along, passes_over};
 ghost use Rattle.pq_rules.specs.Seen.{role_on, seen_number};
+ghost use Rattle.pq_rules.specs.Sights.{seen_at};
 ghost use Rattle.pq_rules.specs.declared.seen.Seen.TheVariants as seen;
 
 use crate::seen::SEEN;
@@ -55,6 +58,14 @@ impl Sight {
         }
     }
 
+    /// Whether a gate of which this is seen passes one of which the other is seen: both act along one axis of the wire.
+    pub fn passes(&self, other: &Sight) -> bool
+        ensures { result ≡ passes_over self.now other.now }
+    {
+        (is_along_z(self.number) & is_along_z(other.number))
+            | (is_along_x(self.number) & is_along_x(other.number))
+    }
+
     /// Its number, below `SEEN`, of each another one.
     #[tactic(auto, using(crate::proofs::SightLaws::number_seen))]
     pub(crate) fn number(self) -> u8
@@ -72,6 +83,20 @@ fn role_number_on(gate: Gate, wire: u32) -> u8
 {
     let behind = is_cx(gate) & (gate.first_wire() != wire);
     kind_number(gate) + (is_phase(gate) | behind) as u8
+}
+
+// whether what has this number acts along Z
+fn is_along_z(number: u8) -> bool
+    ensures { number < SEEN → result ≡ seen_along axis.Z (seen_at number) }
+{
+    (number == 2) | ((number > 3) & (number < ROLES))
+}
+
+// whether what has this number acts along X
+fn is_along_x(number: u8) -> bool
+    ensures { number < SEEN → result ≡ seen_along axis.X (seen_at number) }
+{
+    (number == 1) | (number == 3)
 }
 
 /// The number of the kind of a gate.
