@@ -3,6 +3,7 @@
 
 mod cursors;
 mod exchange;
+mod filter;
 pub mod laws;
 mod looked;
 mod redex;
