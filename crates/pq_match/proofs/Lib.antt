@@ -50,6 +50,7 @@ pub mod Exchanging
 pub mod MarkedPlaces
 pub mod Placed
 pub mod Settling
+pub mod Passing
 pub mod Quieting
 pub mod Resettling
 pub mod Awaiting

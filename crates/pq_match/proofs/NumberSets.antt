@@ -6,7 +6,7 @@ use Rattle.std.proofs.lemmas.Bool.{cases_eq, cases_lt, both_ways, eqb-true}
 use Rattle.std.proofs.lemmas.Nat.{mod_below}
 use Rattle.std.proofs.lemmas.Nat.Bits.{bit_at_set_same, bit_at_set_other, bit_at_clear_same, bit_at_clear_other, bit_at-zero, bit_at-trailing_zeros, bit_at_ones, bit_at_ones_above, ones_shr, bit_at_and}
 use Rattle.std.proofs.lemmas.List.{get_or-set_same, get_or-set_other}
-use Rattle.pq_match.specs.Waiting.{HasNumber, AreOnes, HasEvens}
+use Rattle.pq_match.specs.Waiting.{HasNumber}
 
 -- the word of a number changed
 module _ (words : List ℕ) (number value : ℕ) (inside : number / 64 < length words) where
@@ -106,65 +106,3 @@ least_of {words} {from} {word} none lowest other above less it = by (cases_lt ot
     by : (other < 64 * word) ⊎ (64 * word ≤ other) → ⊥
     by (inl before) = none.none other above before it
     by (inr here) = lowest.before other here less it
-
-pub all_ones : (end first : ℕ) → 64 ≤ end - first → AreOnes end first 18446744073709551615
-all_ones end first more = record { bits = λ bit below. (λ is. omega arith, λ less. bit_at_ones 64 bit below) }
-
-pub no_ones : (end first : ℕ) → end ≤ first → AreOnes end first 0
-no_ones end first none = record { bits = λ bit below. (λ is. absurd (let clash : 0 ≡ 1 = sym (bit_at-zero bit) ∙ is in omega arith), λ less. absurd (omega arith)) }
-
-pub some_ones : (end first : ℕ) → end - first < 64 → AreOnes end first (18446744073709551615 / 2 ^ (64 - (end - first)))
-some_ones end first few = record { bits = λ bit below. (λ is. lower bit is (cases_lt bit (end - first)), λ less. at bit ∙ bit_at_ones (end - first) bit (omega arith)) }
-  where
-    at : (bit : ℕ) → bit_at (18446744073709551615 / 2 ^ (64 - (end - first))) bit ≡ bit_at (2 ^ (end - first) - 1) bit
-    at bit = ap (λ (x : ℕ). bit_at x bit) (ones_shr 64 (64 - (end - first)) (omega arith) ∙ ap (λ (k : ℕ). 2 ^ k - 1) (omega arith))
-
-    lower : (bit : ℕ) → bit_at (18446744073709551615 / 2 ^ (64 - (end - first))) bit ≡ 1 → (bit < end - first) ⊎ (end - first ≤ bit) → first + bit < end
-    lower bit is (inl less) = omega arith
-    lower bit is (inr more) = absurd (let clash : 0 ≡ 1 = sym (at bit ∙ bit_at_ones_above (end - first) bit more) ∙ is in omega arith)
-
--- the first words have the numbers below the end
-pub record AreFilledTo (words : List ℕ) (end count : ℕ) : Type 0 where
-  pub each : (word : ℕ) → word < count → AreOnes end (word * 64) (get_or words word 0)
-
-pub filled : {words : List ℕ} {end : ℕ} → AreFilledTo words end (length words) → (number : ℕ) → number / 64 < length words → HasNumber words number ↔ (number < end)
-filled {words} {end} are number inside =
-    let ones = (are.each (number / 64) inside).bits (number % 64) (mod_below number 64 (omega arith)) in
-    let parts : number / 64 * 64 + number % 64 ≡ number = omega arith in
-    (λ it. subst (λ (n : ℕ). n < end) parts (ones.0 it.has), λ less. record { has = ones.1 (subst (λ (n : ℕ). n < end) (sym parts) less) })
-
--- the word of the even numbers has each of them
-has_evens : ℕ → Bool
-has_evens zero = true
-has_evens (suc n) = cond (eqb (bit_at 6148914691236517205 (2 * n)) 1) (has_evens n) false
-
-both_hold : (first second : Bool) → cond first second false ≡ true → (first ≡ true) × (second ≡ true)
-both_hold true second is = (refl, is)
-both_hold false second is = absurd (both_ways false refl is)
-
-even_in : (n half : ℕ) → has_evens n ≡ true → half < n → bit_at 6148914691236517205 (2 * half) ≡ 1
-unfolding has_evens
-even_in zero half all below = absurd (omega arith)
-even_in (suc n) half all below =
-    let parts : (eqb (bit_at 6148914691236517205 (2 * n)) 1 ≡ true) × (has_evens n ≡ true) = both_hold (eqb (bit_at 6148914691236517205 (2 * n)) 1) (has_evens n) all in
-    elim (cases_eq half n) [
-      | inl same ↦ ap (λ (k : ℕ). bit_at 6148914691236517205 (2 * k)) same ∙ eqb-true (bit_at 6148914691236517205 (2 * n)) 1 parts.0
-      | inr apart ↦ even_in n half parts.1 (omega arith)
-    ]
-
-pub evens_of : {end first word : ℕ} → AreOnes end first word → HasEvens end first (bit_and word 6148914691236517205)
-unfolding has_evens
-evens_of {end} {first} {word} ones = record {
-  bits = λ bit below inside even.
-      (let half : 2 * (bit / 2) ≡ bit = omega arith in
-      let set : bit_at 6148914691236517205 bit ≡ 1 = ap (bit_at 6148914691236517205) (sym half) ∙ even_in 32 (bit / 2) refl (omega arith) in
-      omega (arith, bit_at_and word 6148914691236517205 bit, set, (ones.bits bit below).1 inside));
-}
-
--- the first words have the even numbers below the end
-pub record HaveEvensTo (words : List ℕ) (end count : ℕ) : Type 0 where
-  pub each : (word : ℕ) → word < count → HasEvens end (word * 64) (get_or words word 0)
-
-pub evens_filled : {words : List ℕ} {end : ℕ} → HaveEvensTo words end (length words) → (number : ℕ) → number / 64 < length words → number < end → number % 2 ≡ 0 → HasNumber words number
-evens_filled {words} {end} have number inside less even =
-    record { has = (have.each (number / 64) inside).bits (number % 64) (mod_below number 64 (omega arith)) (omega arith) (omega arith) }

@@ -28,7 +28,7 @@ use Rattle.pq_match.proofs.Taken.{none_at_free}
 none_stands : (number : ℕ) (numbers : List ℕ) → numbers ≡ [] → StandsAt numbers number → ⊥
 none_stands number numbers none stands = (let below : stands.at < length numbers = stands.below in let e : length numbers ≡ 0 = ap (λ (xs : List ℕ). length xs) none in omega arith)
 
-none_quiet : (rules : List RowView) (slots : List Gate) (start : ℕ) → All IsSound rules → IsQuiet rules slots start → HasNoneAmong (StartsAt start) rules slots
+pub none_quiet : (rules : List RowView) (slots : List Gate) (start : ℕ) → All IsSound rules → IsQuiet rules slots start → HasNoneAmong (StartsAt start) rules slots
 none_quiet rules slots start sound quiet = record {
   none = λ redex is at.
       none_stands redex.row (numbers_where (is_admitting (number_of (kind_of (gate_at slots start))) quiet.near quiet.far) 1 rules) quiet.none
@@ -92,10 +92,6 @@ pub none_still : {rules : List RowView} {slots : List Gate} {start : ℕ} → Al
 none_still {rules} {slots} {start} sound are (inl free) = let any : Looked = record { reach = 0; mask = 0 } in (none_at_free any sound free).none slots are looks_alike
 none_still {rules} {slots} {start} sound are (inr quiet) = none_quiet rules slots start sound quiet
 
--- nothing has to be known where all starts wait
-pub all_wait : (rules : List RowView) (slots : List Gate) (starts : StartsView) → ((start : ℕ) → start < length slots → IsWaiting starts start) → AreSettled rules slots starts
-all_wait rules slots starts wait = record { settled = λ start inside asleep. absurd (asleep (wait start inside)) }
-
 -- no row is a candidate at a free slot
 pub no_candidates : {rules : List RowView} {slots : List Gate} {start : ℕ} (looked : Looked) → All IsSound rules → gate_at slots start ≡ free_slot → AreCandidates rules slots start looked []
 no_candidates {rules} {slots} {start} looked sound free = record {
@@ -125,16 +121,3 @@ still_ahead rules slots start one other near far next then_next past near_is far
     by : IsNextOn slots (last_wire (gate_at slots start)) (one + 1) other ⊎ (length slots ≤ one) → one < length slots → IsNextOn slots (last_wire (gate_at slots start)) (one + 1) other
     by (inl is) inside = is
     by (inr out) inside = absurd (omega arith)
-
--- the slots behind those of gates that were spread are free
-free_behind : (gates : List Gate) (start : ℕ) → start < length (spread gates) → (start % 2 ≡ 0 → ⊥) → gate_at (spread gates) start ≡ free_slot
-free_behind [] start below odd = absurd (omega arith)
-free_behind (gate ∷ gates) zero below odd = absurd (odd refl)
-free_behind (gate ∷ gates) (suc zero) below odd = refl
-free_behind (gate ∷ gates) (suc (suc start)) below odd = free_behind gates start (omega arith) (λ even. odd (omega arith))
-
-pub gates_wait : (gates : List Gate) (starts : StartsView) → ((start : ℕ) → start < length (spread gates) → start % 2 ≡ 0 → IsWaiting starts start) →
-    (rules : List RowView) → AreSettled rules (spread gates) starts
-gates_wait gates starts waits rules = record {
-  settled = λ start below asleep. inl (free_behind gates start below (λ even. asleep (waits start below even)));
-}

@@ -1,6 +1,7 @@
 -- Rewriting the first redex of slots is rewriting the first one of the gates in them.
-use Rattle.std.proofs.Common.{◌≡◌, ℕ, ◌<◌, Bool, true, false, cond, Some, List, length, get_or, ap, sym, subst, ◌∙◌}
+use Rattle.std.proofs.Common.{◌≡◌, ℕ, ◌<◌, Bool, true, false, cond, not, Some, List, length, get_or, refl, ap, sym, subst, ◌∙◌}
 use Rattle.std.specs.Prelude.{All}
+use Rattle.std.proofs.lemmas.Bool.{both_ways}
 use Rattle.pq_gate.specs.declared.gate.Gate.{Gate}
 use Rattle.pq_gate.specs.Commuting.{Touches}
 use Rattle.pq_links.specs.Places.{gate_at}
@@ -14,7 +15,7 @@ use Rattle.pq_match.specs.Redex.{RedexView, IsRedex, HasNoRedex}
 use Rattle.pq_match.specs.First.{IsFirst}
 use Rattle.pq_match.specs.Found.{seen, IsFirstFound, IsRedexOf, Rewrites}
 use Rattle.pq_match.specs.Rewrite.{rewritten}
-use Rattle.pq_match.specs.Segment.{SegView, held}
+use Rattle.pq_match.specs.Segment.{SegView, held, IsKnown}
 use Rattle.pq_match.specs.Waiting.{StartsView}
 use Rattle.pq_match.specs.Settled.{AreSettled, AwaitRewriting}
 use Rattle.pq_match.specs.Work.{IsPlaced, IsExchanged, IsRun, IsFirstRewritten, IsFreeRun, MarksPlaces, AreTakenAt}
@@ -128,3 +129,23 @@ module _ (rules : List RowView) (sound : All IsSound rules) (slots : List Gate) 
 
 pub none_loaded : (rules : List RowView) (seg : SegView) → seg.loaded ≡ true → HasNoRedex rules (gates_in seg.work.gates) → HasNoRedex rules (held seg)
 none_loaded rules seg loaded none = subst (HasNoRedex rules) (sym (held_loaded seg loaded)) none
+
+-- what is known of a segment that was loaded, by whether it stands in slots
+pub known_loaded : (rules : List RowView) (seg : SegView) → seg.still ≡ not seg.loaded → (seg.loaded ≡ true → AreSettled rules seg.work.gates seg.work.starts) →
+    (seg.loaded ≡ false → HasNoRedex rules seg.items) → IsKnown rules seg
+known_loaded rules seg either settled none = record {
+  settled = settled;
+  none = λ still.
+      (let closed : seg.loaded ≡ false = by seg.loaded (sym either ∙ still) in
+      subst (HasNoRedex rules) (sym (held_closed seg closed)) (none closed));
+}
+  where
+    by : (loaded : Bool) → not loaded ≡ true → loaded ≡ false
+    by true is = absurd (both_ways false refl is)
+    by false is = refl
+
+-- and of one that is closed and has no redex
+pub known_closed : (rules : List RowView) (seg : SegView) → seg.loaded ≡ false → HasNoRedex rules seg.items → IsKnown rules seg
+known_closed rules seg closed none =
+    let held_none : HasNoRedex rules (held seg) = subst (λ (gates : List Gate). HasNoRedex rules gates) (sym (held_closed seg closed)) none in
+    record { settled = λ loaded. absurd (both_ways seg.loaded closed loaded); none = λ still. held_none }

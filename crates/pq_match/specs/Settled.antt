@@ -1,5 +1,6 @@
 -- Which starts have to be searched again after a rewriting.
-use Rattle.std.specs.Prelude.{◌≡◌, ℕ, ◌+◌, ◌<◌, ◌≤◌, ◌⊎◌, Bool, false, List, [], length, slice_index, bit_and}
+use Rattle.std.specs.Prelude.{◌≡◌, ℕ, ◌+◌, ◌-◌, ◌*◌, ◌<◌, ◌≤◌, ◌⊎◌, Bool, false, List, [], length, slice_index, bit_and}
+use Rattle.std.specs.Int.{bit_at}
 use Rattle.pq_gate.specs.declared.gate.Gate.{Gate}
 use Rattle.pq_gate.specs.Commuting.{Touches}
 use Rattle.pq_gate.specs.Kind.{kind_of, number_of}
@@ -15,7 +16,7 @@ use Rattle.pq_links.specs.Slots.{free_slot, AreSlots}
 use Rattle.pq_match.specs.Redex.{RedexView, IsRedex, is_chosen, last_place}
 use Rattle.pq_match.specs.Seek.{IsSeenAt, LookAlike, StartsAt, HasFailed}
 use Rattle.pq_match.specs.declared.looked.Looked.{Looked}
-use Rattle.pq_match.specs.Waiting.{StartsView, IsWaiting, IsNotedFailed, noted, IsSameOf}
+use Rattle.pq_match.specs.Waiting.{HasNumber, StartsView, IsWaiting, IsNotedFailed, noted, IsSameOf}
 
 -- where a number stands in a list
 pub record StandsAt (numbers : List ℕ) (number : ℕ) : Type 0 where
@@ -61,6 +62,14 @@ IsSettled rules slots starts start = (gate_at slots start ≡ free_slot) ⊎ (Is
 -- each start that doesn't wait is settled
 pub record AreSettled (rules : List RowView) (slots : List Gate) (starts : StartsView) : Type 0 where
   pub settled : (start : ℕ) → start < length slots → (IsWaiting starts start → ⊥) → IsSettled rules slots starts start
+
+-- each gate is quiet, or twice its place is among the numbers
+pub record ArePassed (rules : List RowView) (gates : List Gate) (numbers : List ℕ) : Type 0 where
+  pub each : (place : ℕ) → place < length gates → HasNumber numbers (2 * place) ⊎ IsQuiet rules gates place
+
+-- so it is from a place on and before another one, where the word begins with twice the first place
+pub record ArePassedIn (rules : List RowView) (gates : List Gate) (first end word : ℕ) : Type 0 where
+  pub each : (place : ℕ) → first ≤ place → place < end → place < length gates → (bit_at word (2 * (place - first)) ≡ 1) ⊎ IsQuiet rules gates place
 
 -- Two gates on the wire stand behind the start and before each chosen gate on the wire.
 pub record TwoStandBefore (slots : List Gate) (places : List ℕ) (wire start : ℕ) : Type 0 where

@@ -86,11 +86,3 @@ pub record AreWokenIn (waiting failed reach masks : List ℕ) (word first wires 
 -- the same by the bits of the word
 pub record AreMet (left base : ℕ) (reach masks : List ℕ) (first wires found : ℕ) : Type 0 where
   pub each : (bit : ℕ) → bit < 64 → bit_at left bit ≡ 1 → (bit_at found bit ≡ 1) ⊎ IsUnmet reach masks first wires (base + bit)
-
--- a word has the bits of the even numbers below the end, where its first number is this one
-pub record HasEvens (end first word : ℕ) : Type 0 where
-  pub bits : (bit : ℕ) → bit < 64 → first + bit < end → bit % 2 ≡ 0 → bit_at word bit ≡ 1
-
--- a word has the bits of the numbers below the end, where its first number is this one
-pub record AreOnes (end first word : ℕ) : Type 0 where
-  pub bits : (bit : ℕ) → bit < 64 → (bit_at word bit ≡ 1) ↔ (first + bit < end)

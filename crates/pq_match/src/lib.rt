@@ -4,6 +4,7 @@
 mod ahead;
 mod cursors;
 mod exchange;
+mod filter;
 pub mod laws;
 mod looked;
 mod redex;

@@ -28,6 +28,9 @@ pub struct Seg {
 
     // only clear where the gates in the slots are the segment's
     pub(crate) rewritten: bool,
+
+    // whether none of the gates that were loaded last may begin a redex
+    pub(crate) still: bool,
     pub(crate) asked: u32,
 }
 
@@ -41,7 +44,7 @@ impl Model for Seg {
 
     ghost Value = { SegView };
 
-    ghost view = { λ a. record { items = a.gates.items; room = a.asked; work = a.work; loaded = a.loaded } };
+    ghost view = { λ a. record { items = a.gates.items; room = a.asked; work = a.work; loaded = a.loaded; still = a.still } };
 
     ghost invariant = { λ a. HasRoom (vec_len a.gates) (vec_capacity a.gates) a.asked × (a.asked ≤ MAX_SEGMENT) × AreLinked a.gates.items a.links ×
         (a.links.room ≡ a.asked) × (a.work.room ≡ a.asked) × (a.taken ≡ true → AreTaken a.gates.items) ×
@@ -65,6 +68,7 @@ impl Seg {
             work,
             loaded: false,
             rewritten: false,
+            still: false,
             asked: room,
         })
     }

@@ -1,6 +1,6 @@
 //! Slots: gates stand in them with free ones between, so that a rewriting moves no gate and changes only what it touches.
 
-ghost use Rattle.std.specs.Prelude.{◌≡◌, ◌≢◌, ℕ, ◌<◌, ◌≤◌, [], None, List, length, IfOk, IfNone, IfSome, vec_capacity};
+ghost use Rattle.std.specs.Prelude.{◌≡◌, ◌≢◌, ℕ, ◌<◌, ◌≤◌, [], None, true, false, length, IfOk, IfNone, IfSome, vec_capacity};
 ghost use Rattle.pq_links.specs.Links.{AreLinked};
 ghost use Rattle.pq_links.specs.Slots.{gates_in, spread};
 ghost use Rattle.pq_match.specs.Redex.{HasNoRedex};
@@ -71,29 +71,26 @@ impl Slots {
         })
     }
 
-    /// Becomes the slots of these gates: each has a slot of its own with a free one behind it, and waits.
-    #[tactic(auto, using(crate::proofs::Spreading::spread_slots, crate::proofs::Spreading::spread_few, crate::proofs::Spreading::spread_long, crate::proofs::Settling::gates_wait))]
-    pub fn load(&mut self, gates: &[Gate], links: &Links)
+    /// Becomes the slots of these gates: each has a slot of its own with a free one behind it. Those wait at which a row may
+    /// have a redex by what is seen next. Answers false, and becomes nothing, where none waits: the gates have no redex.
+    #[tactic(auto, using(crate::proofs::Spreading::spread_slots, crate::proofs::Spreading::spread_few, crate::proofs::Spreading::spread_long, crate::proofs::Spreading::taken_slots, crate::proofs::Passing::passed_settled))]
+    pub fn load(&mut self, gates: &[Gate], links: &Links, rules: &Rules) -> bool
         requires linked { AreLinked gates.now links.now }
         requires taken { AreTaken gates.now }
         requires room { length gates.now ≤ self.old.room }
-        ensures gates { self.new.gates ≡ spread gates.now }
-        ensures settled { (rules : List RowView) → AreSettled rules self.new.gates self.new.starts }
+        ensures gates { result ≡ true → self.new.gates ≡ spread gates.now }
+        ensures settled { result ≡ true → AreSettled rules.now self.new.gates self.new.starts }
+        ensures none { result ≡ false → HasNoRedex rules.now gates.now }
         ensures room { self.new.room ≡ self.old.room }
     {
+        let _sound = rules.count();
+        self.starts.wait_passing(gates, links.nexts(), rules);
+        let Some(_first) = self.starts.least_waiting(2 * gates.len() as u32) else {
+            return false;
+        };
         spread_over(&mut self.gates, gates);
         self.chains.spread(gates, links, self.gates.as_slice());
-        self.starts.wait_evens_below(self.gates.len() as u32);
-    }
-
-    /// All starts wait.
-    #[tactic(auto, using(crate::proofs::Settling::all_wait))]
-    pub fn forget(&mut self)
-        ensures gates { self.new.gates ≡ self.old.gates }
-        ensures settled { (rules : List RowView) → AreSettled rules self.new.gates self.new.starts }
-        ensures room { self.new.room ≡ self.old.room }
-    {
-        self.starts.wait_below(self.gates.len() as u32);
+        true
     }
 
     /// Writes the gates in the slots, in order, into a list that has room for them.

@@ -2,12 +2,18 @@
 
 ghost use Rattle.std.specs.Prelude.{◌≡◌, ◌≢◌, ℕ, ◌+◌, ◌*◌, ◌/◌, ◌%◌, ◌<◌, ◌≤◌, ◌⊎◌, ◌↔◌, true, false, bit_and, length, slice_index, IfOk, IfSome, IfNone};
 ghost use Rattle.std.specs.Int.{bit_at};
+ghost use Rattle.pq_match.specs.Seek.{AreLinkedSlots};
+ghost use Rattle.pq_match.specs.Settled.{ArePassed};
+ghost use Rattle.pq_match.specs.Work.{AreTaken};
 ghost use Rattle.pq_match.specs.Waiting.{HasNumber, IsWaiting, IsNotedFailed, noted, IsSameOf, WaitMore, AreWoken, AreWokenIn, AreWithin, NoneBefore, AreMet};
 
+use crate::filter::fill_passing;
 use crate::looked::Looked;
-use crate::words::{fill_below, fill_evens_below, insert, least_from, lowest_bit, remove};
-use pq_links::FAR;
+use crate::words::{insert, least_from, lowest_bit, remove, with_if, without};
+use pq_gate::Gate;
+use pq_links::{FAR, Sides};
 use pq_list::OutOfMemory;
+use pq_rules::Rules;
 use std::alloc::Global;
 use std::marker::Model;
 
@@ -61,26 +67,19 @@ impl Starts {
         })
     }
 
-    /// All starts below this one wait.
-    pub fn wait_below(&mut self, end: u32)
-        requires { end ≤ self.old.room }
-        ensures waits { (start : ℕ) → start < end → IsWaiting self.new start }
-        ensures room { self.new.room ≡ self.old.room }
-    {
-        self.lowest = 0;
-        fill_below(self.waiting.as_mut_slice(), end as usize);
-    }
-
-    /// At least all even starts below this one wait.
-    pub fn wait_evens_below(&mut self, end: u32)
-        requires { end ≤ self.old.room }
-        ensures waits { (start : ℕ) → start < end → start % 2 ≡ 0 → IsWaiting self.new start }
+    /// Of the starts in slots where each gate has a free one behind it, at least those wait at which a row may have a redex
+    /// by what is seen next.
+    pub fn wait_passing(&mut self, gates: &[Gate], next: &[Sides], rules: &Rules)
+        requires linked { AreLinkedSlots gates.now next.now }
+        requires taken { AreTaken gates.now }
+        requires room { 2 * length gates.now ≤ self.old.room }
+        ensures waits { ArePassed rules.now gates.now self.new.waiting }
         ensures room { self.new.room ≡ self.old.room }
     {
         self.lowest = 0;
         self.failed.as_mut_slice().fill(0);
         self.looked.as_mut_slice().fill(Looked::nowhere());
-        fill_evens_below(self.waiting.as_mut_slice(), end as usize);
+        fill_passing(self.waiting.as_mut_slice(), gates, next, rules);
     }
 
     /// The least start that waits, None where none below the end does.
@@ -330,25 +329,4 @@ fn is_met(reach: u32, mask: u64, first: u32, wires: u64) -> bool
     ensures { result ≡ false → (reach ≤ first) ⊎ (bit_and mask wires ≡ 0) }
 {
     (reach > first) & (mask & wires != 0)
-}
-
-// the word without its bit
-#[tactic(auto, using(crate::proofs::WakingWords::cleared_less, crate::proofs::WakingWords::cleared_others))]
-fn without(word: u64, bit: u32) -> u64
-    requires below { bit < 64 }
-    requires has { bit_at word bit ≡ 1 }
-    ensures less { result < word }
-    ensures others { (other : ℕ) → other < 64 → other ≢ bit → bit_at result other ≡ bit_at word other }
-{
-    word & !(1 << bit)
-}
-
-// the word with a bit more, where that is wanted
-#[tactic(auto, using(crate::proofs::WakingWords::more_has, crate::proofs::WakingWords::more_keeps))]
-fn with_if(wanted: bool, word: u64, bit: u32) -> u64
-    requires { bit < 64 }
-    ensures has { wanted ≡ true → bit_at result bit ≡ 1 }
-    ensures kept { (other : ℕ) → bit_at word other ≡ 1 → bit_at result other ≡ 1 }
-{
-    if wanted { word | 1 << bit } else { word }
 }

@@ -1,11 +1,8 @@
 //! Sets of small numbers, as words of 64 bits.
 
-ghost use Rattle.std.specs.Prelude.{◌≡◌, ◌≢◌, ℕ, ◌+◌, ◌*◌, ◌/◌, ◌%◌, ◌<◌, ◌≤◌, ◌↔◌, length};
+ghost use Rattle.std.specs.Prelude.{◌≡◌, ◌≢◌, ℕ, ◌*◌, ◌/◌, ◌<◌, ◌≤◌, ◌↔◌, true, length};
 ghost use Rattle.std.specs.Int.{bit_at};
-ghost use Rattle.pq_match.specs.Waiting.{HasNumber, AreOnes, HasEvens};
-
-// the even numbers below 64
-const EVENS: u64 = 6_148_914_691_236_517_205;
+ghost use Rattle.pq_match.specs.Waiting.{HasNumber};
 
 /// Puts a number into the set.
 #[tactic(auto, using(crate::proofs::NumberSets::inserted_has, crate::proofs::NumberSets::inserted_others))]
@@ -55,46 +52,23 @@ pub fn lowest_bit(word: u64) -> u32
     word.trailing_zeros()
 }
 
-/// Leaves the numbers below this one.
-#[tactic(auto, using(crate::proofs::NumberSets::filled))]
-pub fn fill_below(words: &mut [u64], end: usize)
-    requires { length words.old ≤ 1024 }
-    ensures { (number : ℕ) → number / 64 < length words.new → HasNumber words.new number ↔ (number < end) }
+/// The word without its bit.
+#[tactic(auto, using(crate::proofs::WakingWords::cleared_less, crate::proofs::WakingWords::cleared_others))]
+pub fn without(word: u64, bit: u32) -> u64
+    requires below { bit < 64 }
+    requires has { bit_at word bit ≡ 1 }
+    ensures less { result < word }
+    ensures others { (other : ℕ) → other < 64 → other ≢ bit → bit_at result other ≡ bit_at word other }
 {
-    for index in 0..words.len() {
-        words[index] = ones_below(end, index * 64);
-    }
+    word & !(1 << bit)
 }
 
-/// Leaves at least the even numbers below this one.
-#[tactic(auto, using(crate::proofs::NumberSets::evens_filled))]
-pub fn fill_evens_below(words: &mut [u64], end: usize)
-    requires { length words.old ≤ 1024 }
-    ensures { (number : ℕ) → number / 64 < length words.new → number < end → number % 2 ≡ 0 → HasNumber words.new number }
+/// The word with a bit more, where that is wanted.
+#[tactic(auto, using(crate::proofs::WakingWords::more_has, crate::proofs::WakingWords::more_keeps))]
+pub fn with_if(wanted: bool, word: u64, bit: u32) -> u64
+    requires { bit < 64 }
+    ensures has { wanted ≡ true → bit_at result bit ≡ 1 }
+    ensures kept { (other : ℕ) → bit_at word other ≡ 1 → bit_at result other ≡ 1 }
 {
-    for index in 0..words.len() {
-        words[index] = evens_below(end, index * 64);
-    }
-}
-
-// the even numbers of one word that are below the end, where the word's first number is this one
-#[tactic(auto, using(crate::proofs::NumberSets::evens_of))]
-fn evens_below(end: usize, first: usize) -> u64
-    ensures { HasEvens end first result }
-{
-    ones_below(end, first) & EVENS
-}
-
-// the numbers of one word that are below the end, where the word's first number is this one
-#[tactic(auto, using(crate::proofs::NumberSets::all_ones, crate::proofs::NumberSets::some_ones, crate::proofs::NumberSets::no_ones))]
-fn ones_below(end: usize, first: usize) -> u64
-    ensures { AreOnes end first result }
-{
-    if end <= first {
-        0
-    } else if end - first >= 64 {
-        u64::MAX
-    } else {
-        u64::MAX >> (64 - (end - first))
-    }
+    if wanted { word | 1 << bit } else { word }
 }

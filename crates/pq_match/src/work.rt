@@ -13,21 +13,21 @@ use pq_rules::Rules;
 use std::mem;
 
 impl Seg {
-    /// Spreads the gates over slots, where gates leave and come without moving others. All starts wait. It takes no
-    /// memory.
+    /// Spreads the gates over slots, where gates leave and come without moving others. Those starts wait at which a row may
+    /// have a redex by what is seen next; where there is none, nothing is spread. It takes no memory.
     #[tactic(auto, using(crate::proofs::Spreading::spread_gates))]
-    pub fn load(&mut self)
+    pub fn load(&mut self, rules: &Rules)
         ensures held { held self.new ≡ self.old.items }
-        ensures known { (rules : List RowView) → IsKnown rules self.new }
+        ensures known { IsKnown rules.now self.new }
         ensures items { self.new.items ≡ self.old.items }
         ensures room { self.new.room ≡ self.old.room }
     {
-        self.loaded = self.taken;
         self.rewritten = false;
-        if self.loaded {
-            self.work.load(self.gates.as_slice(), &self.links);
-        } else {
-            self.work.forget();
+        self.loaded = false;
+        self.still = false;
+        if self.taken {
+            self.loaded = self.work.load(self.gates.as_slice(), &self.links, rules);
+            self.still = !self.loaded;
         }
     }
 
@@ -88,6 +88,9 @@ impl Seg {
         ensures known { IsKnown rules.now self.new }
         ensures room { self.new.room ≡ self.old.room }
     {
+        if self.still {
+            return None;
+        }
         if !self.loaded {
             return self.rewrite_closed(rules);
         }
@@ -105,7 +108,6 @@ impl Seg {
     // the same, where the gates are closed up
     fn rewrite_closed(&mut self, rules: &Rules) -> Option<u8>
         requires closed { self.old.loaded ≡ false }
-        requires known { IsKnown rules.now self.old }
         ensures none { IfNone result (HasNoRedex rules.now (held self.old)) }
         ensures same { IfNone result (held self.new ≡ held self.old) }
         ensures first { IfSome result (λ phase. IsFirstRewritten rules.now (held self.old) (held self.new) phase) }
@@ -116,7 +118,7 @@ impl Seg {
             return None;
         };
         let phase = self.apply(rules, &redex);
-        self.load();
+        self.load(rules);
         Some(phase)
     }
 }

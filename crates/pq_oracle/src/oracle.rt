@@ -48,7 +48,7 @@ pub(crate) fn rewrite_all(rules: &Rules, seg: &mut Seg) -> Outcome
         phase: 0,
     };
     let _sound = rules.count();
-    seg.load();
+    seg.load(rules);
     'rewrites: while let Some(phase) = seg.rewrite_first(rules) {
         outcome = Outcome {
             improved: true,

@@ -192,6 +192,14 @@ impl Rules {
             None => false,
         }
     }
+
+    /// Whether there may be such a row: if not, there is none.
+    pub fn has_admitting(&self, gate: Gate, near: Sight, far: Sight) -> bool
+        ensures none { result ≡ false → numbers_where (is_admitting (number_of (kind_of gate)) near far) 1 self.now ≡ [] }
+    {
+        let kind = kind_number(gate) as usize;
+        self.admitted[(kind * WIDTH + near.number() as usize) * WIDTH + far.number() as usize]
+    }
 }
 
 // Rows and rules cross threads.

@@ -1,4 +1,4 @@
-use Rattle.std.proofs.Common.{◌≡◌, true, List, cond, ap, ◌∙◌, subst, rules}
+use Rattle.std.proofs.Common.{◌≡◌, true, List, cond, sym, ap, ◌∙◌, subst, rules}
 use Rattle.std.specs.Prelude.{IfNone}
 use Rattle.pq_gate.specs.declared.gate.Gate.{Gate}
 use Rattle.pq_links.specs.Slots.{gates_in}
@@ -7,11 +7,14 @@ use Rattle.pq_match.specs.Segment.{SegView, held}
 use Rattle.pq_match.proofs.Working.{none_loaded}
 use Rattle.pq_match.proofs.segment.Seg.rewrite_first.Goals as goal
 
+pub returns-then-self-clause-none : goal.returns-then-self-clause-none
+returns-then-self-clause-none c = c.requires.known.none (ap (λ (v : SegView). v.still) (sym c.self.view_is) ∙ c.if-self.true)
+
 pub returns-in_default-clause-none : goal.returns-in_default-clause-none
 returns-in_default-clause-none c =
     let loaded : c.self.inside.loaded ≡ true = search rules in
     subst (λ (v : SegView). HasNoRedex c.args.rules.now (held v)) c.self.view_is
-    (none_loaded c.args.rules.now (record { items = c.self.inside.gates.items; room = c.self.inside.asked; work = c.self.inside.work; loaded = c.self.inside.loaded }) loaded c.in_default.ensures.none)
+    (none_loaded c.args.rules.now (record { items = c.self.inside.gates.items; room = c.self.inside.asked; work = c.self.inside.work; loaded = c.self.inside.loaded; still = c.self.inside.still }) loaded c.in_default.ensures.none)
 
 pub returns-clause-none : goal.returns-clause-none
 returns-clause-none c =
