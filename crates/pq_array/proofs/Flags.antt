@@ -53,6 +53,16 @@ gate_is (gate ∷ gates) (false ∷ flags) zero d here = cc
 gate_is (gate ∷ gates) (true ∷ flags) (suc place) d here = gate_is gates flags place d here
 gate_is (gate ∷ gates) (false ∷ flags) (suc place) d here = gate_is gates flags place d here
 
+-- the same of cells that are known to be those of the gates and flags
+pub gate_inside : {A : Type 0} (gates : List A) (flags : List Bool) (cells : List (Option A)) (place : ℕ) → cells_of gates flags ≡ cells → true ≡ is_some (get_or cells place None) → place < length gates
+gate_inside gates flags cells place is here = live_gate gates flags place (rw is (sym here))
+
+pub gate_here : {A : Type 0} (gates : List A) (flags : List Bool) (cells : List (Option A)) (place : ℕ) (gate : A) → cells_of gates flags ≡ cells → true ≡ is_some (get_or cells place None) →
+    gate ≡ get_or gates place gate → Some gate ≡ get_or cells place None
+gate_here {A} gates flags cells place gate is here same =
+    let lives : IsLive (cells_of gates flags) place = rw is (sym here) in
+    ap (λ (g : A). Some g) same ∙ (sym (gate_is gates flags place gate lives) ∙ ap (λ (c : List (Option A)). get_or c place None) is)
+
 -- with all flags set, each cell holds a gate
 pub cells_of_all : {A : Type 0} (gates : List A) → cells_of gates (replicate (length gates) true) ≡ map (λ gate. Some gate) gates
 cells_of_all [] = refl

@@ -52,6 +52,7 @@ impl Cells {
     }
 
     /// The gate at this place: None where the place is a tombstone, or isn't that of a cell.
+    #[tactic(auto, using(crate::proofs::Flags::gate_inside, crate::proofs::Flags::gate_here))]
     pub fn gate_at(&self, place: u64) -> Option<Gate>
         ensures { result ≡ slice_index_or self.now place None }
     {
