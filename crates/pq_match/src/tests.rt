@@ -145,7 +145,7 @@ fn a_segment_is_searched_to_its_end(rt: HostRuntime) -> Result<(), Fail> {
 
 #[test]
 fn a_gate_knows_the_next_one_on_each_of_its_wires(rt: HostRuntime) -> Result<(), Fail> {
-    let mut seg = Seg::reserve(rt.alloc(), 3)?;
+    let mut seg = Seg::reserve(rt.alloc(), 6)?;
     seg.push(Gate::H { wire: 0 });
     seg.push(Gate::Cx {
         control: 0,
@@ -155,9 +155,19 @@ fn a_gate_knows_the_next_one_on_each_of_its_wires(rt: HostRuntime) -> Result<(),
         eighths: Eighths::T,
         wire: 1,
     });
+
+    // wires 0 and 4 share a bucket
+    seg.push(Gate::Cx {
+        control: 4,
+        target: 4,
+    });
+    seg.push(Gate::H { wire: 0 });
+    seg.push(Gate::H { wire: 4 });
     assert_eq!(&rt; seg.next_on_wire(0, 0), Some(1));
     assert_eq!(&rt; seg.next_on_wire(1, 1), Some(2));
-    assert_eq!(&rt; seg.next_on_wire(1, 0), None);
+    assert_eq!(&rt; seg.next_on_wire(1, 0), Some(4));
+    assert_eq!(&rt; seg.next_on_wire(3, 4), Some(5));
+    assert_eq!(&rt; seg.next_on_wire(4, 0), None);
     Ok(())
 }
 
