@@ -1,6 +1,5 @@
-use Rattle.std.proofs.Common.{Some, List, Option, map, ap, ◌∙◌}
+use Rattle.std.proofs.Common.{Some, List, map, ap, ◌∙◌}
 use Rattle.pq_gate.specs.declared.gate.Gate.{Gate}
-use Rattle.pq_array.specs.Cells.{live}
 use Rattle.pq_array.proofs.Ranks.{live-map_some}
 use Rattle.pq_array.proofs.array.GateArray.of.Goals as goal
 

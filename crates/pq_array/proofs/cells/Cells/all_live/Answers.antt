@@ -1,5 +1,4 @@
 use Rattle.std.proofs.Common.{◌≡◌, ℕ, Bool, true, List, length, replicate, ap, ◌∙◌}
-use Rattle.pq_gate.specs.declared.gate.Gate.{Gate}
 use Rattle.pq_array.specs.Flags.{cells_of}
 use Rattle.pq_array.proofs.Flags.{cells_of_all}
 use Rattle.pq_array.proofs.cells.Cells.all_live.Goals as goal
