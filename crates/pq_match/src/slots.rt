@@ -5,7 +5,6 @@ ghost use Rattle.pq_links.specs.Links.{AreLinked};
 ghost use Rattle.pq_links.specs.Slots.{gates_in, spread};
 ghost use Rattle.pq_match.specs.Redex.{HasNoRedex};
 ghost use Rattle.pq_match.specs.Found.{IsFirstFound};
-ghost use Rattle.pq_rules.specs.Row.{RowView};
 ghost use Rattle.pq_match.specs.Seek.{TriesStart};
 ghost use Rattle.pq_match.specs.Waiting.{IsWaiting, IsSameOf};
 ghost use Rattle.pq_match.specs.Settled.{AreSettled};
