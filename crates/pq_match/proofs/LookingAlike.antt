@@ -1,17 +1,20 @@
 -- What lists of slots share that look alike to a search.
-use Rattle.std.proofs.Common.{◌≡◌, ◌≢◌, ℕ, ◌+◌, ◌<◌, ◌≤◌, ◌==◌, Bool, true, false, List, length, get_or, set, refl, sym, ap, subst, ◌∙◌, arith, inl, inr, ◌⊎◌, eq-eqb}
-use Rattle.std.proofs.lemmas.Bool.{cases_order, eqb-true}
+use Rattle.std.proofs.Common.{◌≡◌, ◌≢◌, ℕ, ◌+◌, ◌<◌, ◌≤◌, ◌==◌, Bool, true, false, List, length, get_or, set, min, refl, sym, ap, subst, ◌∙◌, arith, inl, inr, ◌⊎◌, eq-eqb}
+use Rattle.std.specs.Prelude.{◌↔◌}
+use Rattle.std.proofs.lemmas.Bool.{cases_lt, cases_order, eqb-true}
 use Rattle.std.proofs.lemmas.List.{get_or_past}
 use Rattle.pq_gate.specs.declared.gate.Gate.{Gate}
 use Rattle.pq_gate.specs.declared.gate.Gate.TheVariants.{H}
 use Rattle.pq_gate.specs.Commuting.{Touches, Agree, Commutes}
 use Rattle.pq_gate.specs.Ports.{first_wire}
+use Rattle.pq_links.specs.Links.{far}
 use Rattle.pq_links.specs.Wires.{wire_of}
 use Rattle.pq_links.specs.Slots.{no_wire, AreSlots}
+use Rattle.pq_rules.specs.Row.{RowView}
 use Rattle.pq_match.specs.declared.looked.Looked.{Looked}
 use Rattle.pq_match.specs.Redex.{gate_at}
 use Rattle.pq_match.specs.Search.{AreApart, IsGrown, AreEight}
-use Rattle.pq_match.specs.Seek.{IsMarked, MarksAll, LooksAtMore, LookAlike, IsKnownAt, AreLookedAt}
+use Rattle.pq_match.specs.Seek.{IsMarked, MarksAll, LooksAtMore, LookAlike, HasFailed, IsKnownAt, AreLookedAt}
 use Rattle.pq_match.proofs.Growing.{put_at, put_before}
 use Rattle.pq_match.proofs.SearchTouches.{touched, touching}
 
@@ -26,6 +29,38 @@ alike_less {start} {gates} {other} {less} {more} looks alike = record {
   first = alike.first;
   same = λ p w behind near marked uses.
       (let r : less.reach ≤ more.reach = looks.reach in alike.same p w behind (omega arith) (marked.0, looks.marks w marked.1) uses);
+}
+
+-- and to one that looked at more places only where none of them holds a gate
+alike_within : {start : ℕ} {gates other : List Gate} {less more : Looked} → length gates < far → less.reach ≡ min more.reach far → less.mask ≡ more.mask →
+    LookAlike start less gates other → LookAlike start more gates other
+alike_within {start} {gates} {other} {less} {more} few reach mask alike = record {
+  long = λ p near. long p near (cases_lt p far);
+  first = alike.first;
+  same = λ p w behind near marked uses. same p w behind near marked uses (cases_lt p far);
+}
+  where
+    short : (p : ℕ) → p < more.reach → far ≤ p → length other < far
+    short p near out = elim (cases_lt 65534 (length other)) [
+      | inl over ↦ (let inside : 65534 < length gates = (alike.long 65534 (omega arith)).1 over in absurd (omega arith))
+      | inr upto ↦ omega arith
+    ]
+
+    long : (p : ℕ) → p < more.reach → (p < far) ⊎ (far ≤ p) → (p < length gates) ↔ (p < length other)
+    long p near (inl below) = alike.long p (omega arith)
+    long p near (inr out) = (λ inside. absurd (omega arith), λ inside. (let less_long : length other < far = short p near out in absurd (omega arith)))
+
+    same : (p w : ℕ) → start < p → p < more.reach → IsMarked more.mask w → Touches (gate_at gates p) w ⊎ Touches (gate_at other p) w → (p < far) ⊎ (far ≤ p) → gate_at gates p ≡ gate_at other p
+    same p w behind near marked uses (inl below) = alike.same p w behind (omega arith) (subst (λ (m : ℕ). IsMarked m w) (sym mask) marked) uses
+    same p w behind near marked uses (inr out) =
+        (let less_long : length other < far = short p near out in get_or_past gates p (H 0) (omega arith) ∙ sym (get_or_past other p (H 0) (omega arith)))
+
+-- so it failed whatever stands there
+pub failed_within : {rules : List RowView} {slots : List Gate} {start : ℕ} {less more : Looked} → length slots < far → start < length slots → less.reach ≡ min more.reach far →
+    less.mask ≡ more.mask → HasFailed rules slots start more → HasFailed rules slots start less
+failed_within {rules} {slots} {start} {less} {more} few inside reach mask failed = record {
+  near = (let near : start < more.reach = failed.near in omega arith);
+  none = record { none = λ other are alike. failed.none.none other are (alike_within few reach mask alike) };
 }
 
 -- and so does what looks like a list that looks alike

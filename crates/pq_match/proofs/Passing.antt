@@ -22,7 +22,7 @@ use Rattle.pq_links.specs.Leading.{doubled}
 use Rattle.pq_links.proofs.Changing.{free_uses}
 use Rattle.pq_links.proofs.Spreading.{length_spread, own_slot, every_slot}
 use Rattle.pq_links.proofs.Touching.{touching}
-use Rattle.pq_match.specs.Redex.{RedexView, IsRedex, HasNoRedex, gate_at}
+use Rattle.pq_match.specs.Redex.{HasNoRedex, gate_at}
 use Rattle.pq_match.specs.Seek.{IsClear, IsSeenAt, AreLinkedSlots}
 use Rattle.pq_match.specs.Waiting.{HasNumber, StartsView, IsWaiting}
 use Rattle.pq_match.specs.Settled.{SeesAhead, IsQuiet, IsSettled, AreSettled, ArePassed, ArePassedIn}

@@ -1,5 +1,5 @@
 -- No redex begins at a start that is settled.
-use Rattle.std.proofs.Common.{◌≡◌, ℕ, zero, suc, ◌+◌, ◌%◌, ◌<◌, ◌≤◌, ◌⊎◌, inl, inr, List, [], ◌∷◌, length, get_or, refl, sym, ap, subst, arith}
+use Rattle.std.proofs.Common.{◌≡◌, ℕ, ◌+◌, ◌<◌, ◌≤◌, ◌⊎◌, inl, inr, List, [], ◌∷◌, length, get_or, refl, sym, ap, subst, arith}
 use Rattle.std.specs.Prelude.{All}
 use Rattle.std.proofs.lemmas.Bool.{cases_eq, cases_lt}
 use Rattle.pq_gate.specs.declared.gate.Gate.{Gate}
@@ -10,7 +10,7 @@ use Rattle.pq_rules.specs.Seen.{is_admitting}
 use Rattle.pq_gate.specs.Ports.{last_wire}
 use Rattle.pq_rules.specs.declared.seen.Seen.{Seen}
 use Rattle.pq_links.specs.Links.{IsNextOn}
-use Rattle.pq_links.specs.Slots.{free_slot, spread, AreSlots}
+use Rattle.pq_links.specs.Slots.{free_slot, AreSlots}
 use Rattle.pq_match.specs.Redex.{RedexView, IsRedex, gate_at}
 use Rattle.pq_match.specs.First.{HasNoneAmong}
 use Rattle.pq_match.specs.Seek.{StartsAt, IsSeenAt, HasFailed}

@@ -1,6 +1,6 @@
 //! What a search looked at.
 
-ghost use Rattle.std.specs.Prelude.{◌≡◌, ◌+◌, ◌<◌, Bool, max, bit_or};
+ghost use Rattle.std.specs.Prelude.{◌≡◌, ◌+◌, ◌<◌, Bool, min, max, bit_or};
 ghost use Rattle.pq_links.specs.Links.{far};
 ghost use Rattle.pq_links.specs.Wires.{wire_of};
 ghost use Rattle.pq_match.specs.Seek.{HasBit, MarksAll, LooksAtMore};
@@ -45,6 +45,17 @@ impl Looked {
         Looked {
             reach: self.reach.max(other.reach),
             mask: self.mask | other.mask,
+        }
+    }
+
+    /// The same, where places from this one on don't count.
+    pub fn within(self, end: u32) -> Looked
+        ensures reach { result.reach ≡ min self.reach end }
+        ensures mask { result.mask ≡ self.mask }
+    {
+        Looked {
+            reach: self.reach.min(end),
+            mask: self.mask,
         }
     }
 

@@ -5,7 +5,6 @@ ghost use Rattle.pq_links.specs.Links.{AreLinked};
 ghost use Rattle.pq_links.specs.Slots.{gates_in, spread};
 ghost use Rattle.pq_match.specs.Redex.{HasNoRedex};
 ghost use Rattle.pq_match.specs.Found.{IsFirstFound};
-ghost use Rattle.pq_rules.specs.Row.{RowView};
 ghost use Rattle.pq_match.specs.Seek.{TriesStart};
 ghost use Rattle.pq_match.specs.Waiting.{IsWaiting, IsSameOf};
 ghost use Rattle.pq_match.specs.Settled.{AreSettled};
@@ -21,7 +20,7 @@ use crate::waiting::Starts;
 use crate::waking::wires_at;
 use pq_gate::Gate;
 use pq_limits::MAX_SEGMENT;
-use pq_links::{Chains, Links};
+use pq_links::{Chains, FAR, Links};
 use pq_list::OutOfMemory;
 use pq_rules::Rules;
 use std::alloc::Global;
@@ -154,7 +153,7 @@ fn find_in(slots: &[Gate], chains: &Chains, starts: &mut Starts, rules: &Rules) 
 }
 
 // the first redex that begins at the start
-#[tactic(auto, using(crate::proofs::Settling::settle_still, crate::proofs::Settling::settle_failed, crate::proofs::Settling::none_still))]
+#[tactic(auto, using(crate::proofs::Settling::settle_still, crate::proofs::Settling::none_still))]
 fn try_start(
     slots: &[Gate],
     chains: &Chains,
@@ -182,7 +181,7 @@ fn try_start(
         return None;
     }
     let Some(first) = seek_rows(slots, next, rules, numbers, start, &mut looked, previous) else {
-        starts.settle_failed(start, looked);
+        starts.settle_failed(start, looked.within(FAR));
         return None;
     };
     Some(first)

@@ -1,7 +1,6 @@
 //! Which starts of a search wait, and what is noted of those that failed.
 
-ghost use Rattle.std.specs.Prelude.{◌≡◌, ◌≢◌, ℕ, ◌+◌, ◌*◌, ◌/◌, ◌%◌, ◌<◌, ◌≤◌, ◌⊎◌, ◌↔◌, true, false, bit_and, length, slice_index, IfOk, IfSome, IfNone};
-ghost use Rattle.std.specs.Int.{bit_at};
+ghost use Rattle.std.specs.Prelude.{◌≡◌, ◌≢◌, ℕ, ◌+◌, ◌*◌, ◌/◌, ◌<◌, ◌≤◌, ◌⊎◌, ◌↔◌, true, false, bit_and, length, slice_index, IfOk, IfSome, IfNone};
 ghost use Rattle.pq_match.specs.Seek.{AreLinkedSlots};
 ghost use Rattle.pq_match.specs.Settled.{ArePassed};
 ghost use Rattle.pq_match.specs.Work.{AreTaken};
@@ -23,7 +22,7 @@ use std::marker::Model;
 pub struct Starts {
     waiting: Vec<u64>,
     failed: Vec<u64>,
-    reach: Vec<u32>,
+    reach: Vec<u16>,
     masks: Vec<u64>,
 
     // of each word: none of its starts that failed looked farther, or at other wires
@@ -136,7 +135,8 @@ impl Starts {
 
     /// The start doesn't wait, and its search failed, which looked at this.
     pub fn settle_failed(&mut self, start: u32, looked: Looked)
-        requires { start < self.old.room }
+        requires start { start < self.old.room }
+        requires fits { looked.reach ≤ FAR }
         ensures settled { IsWaiting self.new start → ⊥ }
         ensures failed { IsNotedFailed self.new start }
         ensures noted { noted self.new start ≡ looked }
@@ -149,7 +149,8 @@ impl Starts {
 
     // the start failed, and its search looked at this
     fn note_failed(&mut self, start: u32, looked: Looked)
-        requires { start < self.old.room }
+        requires start { start < self.old.room }
+        requires fits { looked.reach ≤ FAR }
         ensures failed { IsNotedFailed self.new start }
         ensures noted { noted self.new start ≡ looked }
         ensures others { (other : ℕ) → other ≢ start → IsNotedFailed self.new other ↔ IsNotedFailed self.old other }
@@ -193,12 +194,13 @@ impl Starts {
 #[tactic(auto, using(crate::proofs::WakingWords::within_noted))]
 fn note(
     failed: &mut [u64],
-    reach: &mut [u32],
+    reach: &mut [u16],
     masks: &mut [u64],
     words: &mut [Looked],
     start: usize,
     looked: Looked,
 )
+    requires fits { looked.reach ≤ FAR }
     requires failed { start / 64 < length failed.old }
     requires reach { start < length reach.old }
     requires masks { start < length masks.old }
@@ -213,7 +215,7 @@ fn note(
     ensures within { AreWithin failed.new reach.new masks.new words.new }
 {
     insert(failed, start);
-    reach[start] = looked.reach;
+    reach[start] = looked.reach as u16;
     masks[start] = looked.mask;
     words[start / 64] = words[start / 64].and(looked);
 }
@@ -223,7 +225,7 @@ fn note(
 fn wake_words(
     waiting: &mut [u64],
     failed: &[u64],
-    reach: &[u32],
+    reach: &[u16],
     masks: &[u64],
     words: &[Looked],
     first: u32,
@@ -258,7 +260,7 @@ fn wake_words(
 fn wake_word(
     waiting: &mut [u64],
     failed: &[u64],
-    reach: &[u32],
+    reach: &[u16],
     masks: &[u64],
     words: &[Looked],
     index: usize,
@@ -299,7 +301,7 @@ fn wake_word(
 
 // those of a word's numbers that looked behind the first place and at one of the wires; the word's first number is this one
 #[tactic(auto, using(crate::proofs::WakingWords::none_met, crate::proofs::WakingWords::met_more, crate::proofs::WakingWords::all_met))]
-fn meeting(left: u64, base: usize, reach: &[u32], masks: &[u64], first: u32, wires: u64) -> u64
+fn meeting(left: u64, base: usize, reach: &[u16], masks: &[u64], first: u32, wires: u64) -> u64
     requires few { base ≤ 65536 }
     requires reach { base + 64 ≤ length reach.now }
     requires masks { base + 64 ≤ length masks.now }
@@ -310,7 +312,7 @@ fn meeting(left: u64, base: usize, reach: &[u32], masks: &[u64], first: u32, wir
     'bits: while rest != 0 {
         let bit = lowest_bit(rest);
         let start = base + bit as usize;
-        let met = is_met(reach[start], masks[start], first, wires);
+        let met = is_met(reach[start] as u32, masks[start], first, wires);
         rest = without(rest, bit);
         found = with_if(met, found, bit);
     }

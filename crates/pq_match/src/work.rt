@@ -1,7 +1,6 @@
 //! Rewriting the first redex of a segment again and again, in slots.
 
-ghost use Rattle.std.specs.Prelude.{◌≡◌, ◌≤◌, [], false, List, length, IfSome, IfNone};
-ghost use Rattle.pq_rules.specs.Row.{RowView};
+ghost use Rattle.std.specs.Prelude.{◌≡◌, ◌≤◌, [], false, IfSome, IfNone};
 ghost use Rattle.pq_match.specs.Redex.{HasNoRedex};
 ghost use Rattle.pq_match.specs.Segment.{held, IsKnown};
 ghost use Rattle.pq_match.specs.Work.{IsFirstRewritten};
