@@ -97,9 +97,7 @@ pub fn seek_rows(
     let last = lane_on_last(gates, next, start, looked);
     let first = lane_on_first(gates, next, start, looked);
     for number in numbers {
-        if let Some(redex) = try_row(
-            gates, next, rules, *number, start, &last, &first, looked,
-        ) {
+        if let Some(redex) = try_row(gates, next, rules, *number, start, &last, &first, looked) {
             return Some(redex);
         }
     }
