@@ -9,10 +9,10 @@ use Rattle.pq_gate.specs.Commuting.{Touches}
 use Rattle.pq_gate.specs.Role.{role_number, acts_along}
 use Rattle.pq_rules.specs.declared.seen.Seen.{Seen}
 use Rattle.pq_rules.specs.declared.seen.Seen.TheVariants as seen
-use Rattle.pq_rules.specs.Lanes.{LaneView, has_passed, no_lane, any_lane, passes_over, ended}
+use Rattle.pq_rules.specs.Lanes.{LaneView, has_passed, any_lane, passes_over, ended}
 use Rattle.pq_rules.specs.Seen.{role_on, agree, seen_number}
 use Rattle.pq_links.specs.Links.{IsNextOn}
-use Rattle.pq_links.specs.Slots.{no_wire, AreSlots}
+use Rattle.pq_links.specs.Slots.{no_wire}
 use Rattle.pq_match.specs.declared.looked.Looked.{Looked}
 use Rattle.pq_match.specs.Ahead.{ArePassed, IsSeenNext, IsLaneOn, IsLaneAlike, IsEndedAt}
 use Rattle.pq_match.specs.Redex.{gate_at}

@@ -8,7 +8,7 @@ use Rattle.pq_gate.specs.declared.role.Axis.TheVariants as axis
 use Rattle.pq_gate.specs.declared.role.Role.{Role}
 use Rattle.pq_gate.specs.Circuit.{IsCircuit}
 use Rattle.pq_gate.specs.Commuting.{Touches}
-use Rattle.pq_gate.specs.Ports.{first_wire, last_wire}
+use Rattle.pq_gate.specs.Ports.{first_wire}
 use Rattle.pq_gate.specs.Role.{role_number, axis_of, is_axis}
 use Rattle.pq_rules.specs.declared.seen.Seen.{Seen}
 use Rattle.pq_rules.specs.declared.seen.Seen.TheVariants as seen
@@ -171,7 +171,7 @@ module _ (n : ℕ) (gates : List Gate) (p0 : Gate) (gs : List Gate) (places : Li
       passes less =
           let inside = full.inside t t_below in (
             subst (λ (r : Role). agree (role_on w p0) r ≡ true) (same_role_at t t_below)
-            (subst (λ (r : Role). agree r (role_on W (gate_at gates (get_or places t 0))) ≡ true) start_role (is.passed.along (get_or places t 0) (rise t t_some t_below) less inside t_touches)),
+                (subst (λ (r : Role). agree r (role_on W (gate_at gates (get_or places t 0))) ≡ true) start_role (is.passed.along (get_or places t 0) (rise t t_some t_below) less inside t_touches)),
             subst (λ (r : Role). has_passed lane r ≡ true) (same_role_at t t_below) (is.passed.noted (get_or places t 0) (rise t t_some t_below) less inside t_touches),
           )
 

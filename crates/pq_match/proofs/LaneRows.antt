@@ -1,12 +1,11 @@
 -- Rows are ruled out by what stands behind a start on the wires of its gate.
-use Rattle.std.proofs.Common.{◌≡◌, ℕ, ◌+◌, ◌<◌, Bool, true, false, cond, ◌&&◌, ◌⊎◌, inl, inr, List, [], ◌∷◌, length, get_or, Option, Some, None, refl, sym, ap, subst, ◌∙◌, arith}
+use Rattle.std.proofs.Common.{◌≡◌, ℕ, Bool, true, false, cond, ◌&&◌, ◌⊎◌, inl, inr, List, [], ◌∷◌, length, get_or, Option, Some, refl, sym, ap, subst, ◌∙◌, arith}
 use Rattle.std.specs.List.{All}
 use Rattle.pq_gate.specs.declared.gate.Eighths.TheVariants.{T, S, Z, Sdg, Tdg}
 use Rattle.pq_gate.specs.declared.gate.Gate.{Gate}
 use Rattle.pq_gate.specs.declared.role.Role.{Role}
 use Rattle.pq_gate.specs.declared.role.Role.TheVariants as role
 use Rattle.pq_gate.specs.Circuit.{IsCircuit}
-use Rattle.pq_gate.specs.Ports.{first_wire, last_wire}
 use Rattle.pq_rules.specs.declared.seen.Seen.TheVariants as seen
 use Rattle.pq_rules.specs.Kinds.{row_numbered}
 use Rattle.pq_rules.specs.Lanes.{LaneView, has_passed, any_lane, may_lead, admits_lane, admits_lanes, admits_begin}

@@ -15,13 +15,7 @@ use pq_rules::{Lane, Sight};
 
 /// What stands behind the start on a wire of its gate, and what was looked at, beside what is noted already.
 #[tactic(auto, using(crate::proofs::LaneAlike::any_alike))]
-pub fn lane_on(
-    gates: &[Gate],
-    next: &[Sides],
-    start: u32,
-    wire: u32,
-    looked: &mut Looked,
-) -> Lane
+pub fn lane_on(gates: &[Gate], next: &[Sides], start: u32, wire: u32, looked: &mut Looked) -> Lane
     requires linked { AreLinkedSlots gates.now next.now }
     requires start { start < length gates.now }
     requires uses { Touches (gate_at gates.now start) wire }
@@ -43,7 +37,15 @@ pub fn lane_on(
         lane.pass(sight);
         place = next_on(gates, next, place, wire);
     }
-    end_at(gates, next, place, wire, Sight::nothing(), &mut lane, looked);
+    end_at(
+        gates,
+        next,
+        place,
+        wire,
+        Sight::nothing(),
+        &mut lane,
+        looked,
+    );
     lane
 }
 
@@ -54,7 +56,13 @@ pub fn lane_on_last(gates: &[Gate], next: &[Sides], start: u32, looked: &mut Loo
     ensures more { LooksAtMore looked.old looked.new }
     ensures lane { IsLaneAlike gates.now (wire_of true (gate_at gates.now start)) start looked.new result }
 {
-    lane_on(gates, next, start, gates[start as usize].last_wire(), looked)
+    lane_on(
+        gates,
+        next,
+        start,
+        gates[start as usize].last_wire(),
+        looked,
+    )
 }
 
 /// The same on its first wire. Where that is its last, nothing is told.

@@ -1,12 +1,10 @@
 use Rattle.std.proofs.Common.{◌≡◌, true, false, ◌+◌, sym, subst, ◌∙◌}
-use Rattle.pq_gate.specs.Commuting.{Touches}
 use Rattle.pq_rules.specs.declared.seen.Seen.{Seen}
 use Rattle.pq_rules.specs.Lanes.{passes_over}
 use Rattle.pq_links.specs.Links.{IsNextOn}
 use Rattle.pq_match.specs.declared.looked.Looked.{Looked}
-use Rattle.pq_match.specs.Redex.{gate_at}
 use Rattle.pq_match.specs.Seek.{LooksAtMore}
-use Rattle.pq_match.proofs.LaneAlike.{walk_begins, walk_goes_on, none_passed, passed_more, lane_known, lane_to_end}
+use Rattle.pq_match.proofs.LaneAlike.{walk_goes_on, passed_more, lane_known, lane_to_end}
 use Rattle.pq_match.proofs.ahead.lane_on.Goals as goal
 
 pub returns-then-not-passes-clause-more : goal.returns-then-not-passes-clause-more

@@ -1,7 +1,6 @@
-use Rattle.std.proofs.Common.{◌≡◌, ◌≢◌, ◌-◌, ◌≤◌, length}
+use Rattle.std.proofs.Common.{◌≡◌, ◌≢◌, ◌-◌, length}
 use Rattle.pq_rules.specs.declared.seen.Seen.TheVariants as seen
 use Rattle.pq_rules.specs.Seen.{role_on}
-use Rattle.pq_links.specs.Links.{far}
 use Rattle.pq_links.specs.Slots.{no_wire}
 use Rattle.pq_match.specs.Ahead.{ArePassed}
 use Rattle.pq_match.specs.Redex.{gate_at}
