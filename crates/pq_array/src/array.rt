@@ -16,8 +16,7 @@ const NEAR: u64 = 256;
 
 /// Cells that each hold a gate, or are a tombstone where a gate was taken out. Contracts see the list
 /// of cells, and its live gates: those that are left, in order of place. A place is the number of a
-/// cell, counted from 0; the number of cells stands for the end. Only `open`
-/// and `of` take memory.
+/// cell, counted from 0; the number of cells stands for the end. Only `open` and `of` take memory.
 #[derive(Drop)]
 pub struct GateArray {
     cells: Cells,
