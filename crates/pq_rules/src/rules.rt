@@ -1,4 +1,4 @@
-ghost use Rattle.std.specs.Prelude.{◌≡◌, ℕ, ◌+◌, ◌<◌, ◌≤◌, ◌++◌, Bool, false, [], ◌∷◌, All, cond, length, map, IfOk, IfSome, slice_index_or, vec_len};
+ghost use Rattle.std.specs.Prelude.{◌≡◌, ◌≢◌, ℕ, ◌+◌, ◌<◌, ◌≤◌, ◌++◌, Bool, false, true, [], ◌∷◌, All, cond, length, map, IfOk, IfSome, slice_index_or, vec_len};
 ghost use Rattle.std.specs.Option.{option_copied};
 ghost use Rattle.pq_gate.specs.Kind.{kind_of, number_of};
 ghost use Rattle.pq_rules.specs.Kinds.{begins, numbers_starting, numbers_where, row_numbered};
@@ -58,7 +58,7 @@ impl Model for Rules {
 
     ghost Value = { List RowView };
 
-    ghost use Rattle.std.specs.Prelude.{◌≡◌, ◌<◌, ◌≤◌, Bool, false, [], All, map, slice_index_or, vec_len};
+    ghost use Rattle.std.specs.Prelude.{◌≡◌, ◌≢◌, ◌<◌, ◌≤◌, Bool, false, true, [], All, map, slice_index_or, vec_len};
     ghost use Rattle.pq_rules.specs.Lanes.{demands};
     ghost use Rattle.pq_gate.specs.declared.kind.TheConstants.{KINDS};
     ghost use Rattle.pq_rules.specs.Kinds.{numbers_starting, numbers_where};
@@ -77,7 +77,8 @@ impl Model for Rules {
         (slice_index_or a.admitting.items (entry_of k near far) d).items ≡ numbers_where (is_admitting k near far) 1 a.rows.items) ×
         (vec_len a.admitted ≡ ENTRIES) ×
         ((entry : ℕ) (d : _) (e : Bool) → entry < ENTRIES → slice_index_or a.admitted.items entry e ≡ false → (slice_index_or a.admitting.items entry d).items ≡ []) ×
-        (a.ahead.items ≡ map demands a.rows.items) };
+        (a.ahead.items ≡ map demands a.rows.items) ×
+        ((entry : ℕ) (d : _) (e : Bool) → entry < ENTRIES → slice_index_or a.admitted.items entry e ≡ true → (slice_index_or a.admitting.items entry d).items ≢ []) };
 }
 
 impl Rules {
@@ -193,9 +194,10 @@ impl Rules {
         }
     }
 
-    /// Whether there may be such a row: if not, there is none.
+    /// Whether `rows_admitting` has a number for the same gate and sights.
     pub fn has_admitting(&self, gate: Gate, near: Sight, far: Sight) -> bool
         ensures none { result ≡ false → numbers_where (is_admitting (number_of (kind_of gate)) near far) 1 self.now ≡ [] }
+        ensures some { result ≡ true → numbers_where (is_admitting (number_of (kind_of gate)) near far) 1 self.now ≢ [] }
     {
         let kind = kind_number(gate) as usize;
         self.admitted[(kind * WIDTH + near.number() as usize) * WIDTH + far.number() as usize]
@@ -314,6 +316,8 @@ fn noted(alloc: Global, table: &[Vec<u32>]) -> Result<Vec<bool>, OutOfMemory>
     ensures len { IfOk result (λ noted. vec_len noted ≡ ENTRIES) }
     ensures none { IfOk result (λ noted. (entry : ℕ) (d : _) (e : Bool) → entry < ENTRIES → slice_index_or noted.items entry e ≡ false →
         (slice_index_or table.now entry d).items ≡ []) }
+    ensures some { IfOk result (λ noted. (entry : ℕ) (d : _) (e : Bool) → entry < ENTRIES → slice_index_or noted.items entry e ≡ true →
+        (slice_index_or table.now entry d).items ≢ []) }
 {
     let mut noted = Vec::with_capacity(alloc, ENTRIES)?;
     for entry in 0..ENTRIES {
