@@ -1,4 +1,4 @@
-ghost use Rattle.std.specs.Prelude.{◌≡◌, ◌≤◌, ◌/◌, ◌%◌, IfOk};
+ghost use Rattle.std.specs.Prelude.{◌≡◌, ℕ, ◌/◌, ◌%◌, ◌<◌, ◌≤◌, IfOk};
 ghost use Rattle.pq_limits.specs.Limits.{AreQubits};
 ghost use Rattle.pq_gate.specs.declared.gate.Gate.TheVariants.{Phase};
 ghost use Rattle.pq_text.specs.WellFormed.{WellFormed};
@@ -12,6 +12,9 @@ use pq_read::{Name, Program, RegList, Register, TailList};
 use rand_core::{Rng, SeedableRng};
 use rand_xoshiro::SplitMix64;
 use std::alloc::Global;
+
+// the number of the kind of a CX
+const CX: u64 = 7;
 
 /// The program of a seed: so many gates on one quantum register `q`. There are 1 to 4,096 qubits, and at
 /// most 1,048,576 gates. Each gate comes of one word of SplitMix64, which is started with the seed as its
@@ -61,17 +64,28 @@ fn gate(word: u64, qubits: u32) -> Gate
     requires { AreQubits qubits }
     ensures { result ≡ gate_of (word % 8) qubits (word / 8) }
 {
+    let kind = word % 8;
     let number = word / 8;
-    let wire = (number % u64::from(qubits)) as u32;
-    match word % 8 {
+    if kind == CX {
+        cx(number, qubits)
+    } else {
+        on_one_wire(kind, (number % u64::from(qubits)) as u32)
+    }
+}
+
+/// The gate on a wire of a kind that has one wire. Which kind comes can't be foretold, so it is no branch.
+fn on_one_wire(kind: u64, wire: u32) -> Gate
+    requires { kind < CX }
+    ensures { (qubits number : ℕ) → wire ≡ number % qubits → result ≡ gate_of kind qubits number }
+{
+    match kind {
         0 => Gate::H { wire },
         1 => Gate::X { wire },
         2 => phase(Eighths::Z, wire),
         3 => phase(Eighths::S, wire),
         4 => phase(Eighths::Sdg, wire),
         5 => phase(Eighths::T, wire),
-        6 => phase(Eighths::Tdg, wire),
-        _ => cx(number, qubits),
+        _ => phase(Eighths::Tdg, wire),
     }
 }
 
