@@ -50,6 +50,7 @@ pub mod Exchanging
 pub mod MarkedPlaces
 pub mod Placed
 pub mod Settling
+pub mod Noting
 pub mod Passing
 pub mod Quieting
 pub mod Resettling

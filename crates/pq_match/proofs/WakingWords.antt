@@ -226,6 +226,10 @@ within_noted {failed} {then_failed} {reach} {masks} {looked} start own new insid
         at other (get_or reach other 0) (get_or masks other 0) (get_or looked (other / 64) nowhere) (get_or-set_other reach start other own.reach 0 apart)
         (get_or-set_other masks start other own.mask 0 apart) (get_or-set_other looked (start / 64) (other / 64) new nowhere word) (within.each other ((others other apart).0 has))
 
+-- where none failed
+pub within_none : {failed reach masks : List ℕ} {looked : List Looked} → ((start : ℕ) → HasNumber failed start → ⊥) → AreWithin failed reach masks looked
+within_none none = record { each = λ start has. absurd (none start has) }
+
 -- where it is forgotten of one that it failed
 pub within_fewer : {failed then_failed reach masks : List ℕ} {looked : List Looked} (start : ℕ) → AreWithin failed reach masks looked → (HasNumber then_failed start → ⊥) →
     ((other : ℕ) → other ≢ start → HasNumber then_failed other ↔ HasNumber failed other) → AreWithin then_failed reach masks looked

@@ -1,5 +1,5 @@
 -- What the search along the wires goes by, and how much of a list it looked at.
-use Rattle.std.specs.Prelude.{◌≡◌, ◌≢◌, ℕ, ◌+◌, ◌%◌, ◌<◌, ◌≤◌, ◌⊎◌, ◌↔◌, Bool, true, false, List, length, slice_index, Option, Some, None}
+use Rattle.std.specs.Prelude.{◌≡◌, ◌≢◌, ℕ, ◌+◌, ◌*◌, ◌%◌, ◌<◌, ◌≤◌, ◌⊎◌, ◌↔◌, Bool, true, false, List, length, slice_index, Option, Some, None}
 use Rattle.std.specs.Int.{bit_at}
 use Rattle.pq_gate.specs.declared.gate.Gate.{Gate}
 use Rattle.pq_gate.specs.Commuting.{Touches}
@@ -8,6 +8,8 @@ use Rattle.pq_rules.specs.declared.seen.Seen.{Seen}
 use Rattle.pq_rules.specs.declared.seen.Seen.TheVariants as seen
 use Rattle.pq_rules.specs.Row.{RowView}
 use Rattle.pq_rules.specs.Seen.{first_role, last_role, role_on}
+use Rattle.pq_rules.specs.Sights.{seen_at}
+use Rattle.pq_rules.specs.declared.seen.TheConstants.{SEEN}
 use Rattle.pq_links.specs.Wires.{wire_of}
 use Rattle.pq_links.specs.declared.links.Sides.{Sides}
 use Rattle.pq_links.specs.Links.{far, IsNextOn}
@@ -159,3 +161,13 @@ abbrev pub IsSeenAt : List Gate → ℕ → ℕ → Seen → Type 0
 IsSeenAt gates wire place seen.Nothing = length gates ≤ place
 IsSeenAt gates wire place seen.Unclear = Unit {0}
 IsSeenAt gates wire place (seen.Plays own) = (own ≡ role_on wire (gate_at gates place)) × IsClear (gate_at gates place)
+
+-- the number of what is seen at a place on a wire
+abbrev pub IsSightAt : List Gate → ℕ → ℕ → ℕ → Type 0
+IsSightAt gates wire place number = (number < SEEN) × IsSeenAt gates wire place (seen_at number)
+
+-- for each of the first `count` gates the number of what is seen there on its first wire, at twice its place, and behind that of what is
+-- seen on its last
+pub record AreSightsNoted (gates : List Gate) (count : ℕ) (notes : List ℕ) : Type 0 where
+  pub first : (p : ℕ) → p < count → IsSightAt gates (first_wire (gate_at gates p)) p (slice_index notes (2 * p))
+  pub last : (p : ℕ) → p < count → IsSightAt gates (last_wire (gate_at gates p)) p (slice_index notes (2 * p + 1))

@@ -162,11 +162,19 @@ pub(crate) fn see(gates: &[Gate], place: u32, wire: u32) -> Sight
         return Sight::nothing();
     }
     let gate = gates[place as usize];
-    if gate.first_wire() == gate.last_wire() && !has_one_wire(gate) {
-        Sight::unclear()
+    let plays = Sight::of(gate, wire);
+    if is_clear(gate) {
+        plays
     } else {
-        Sight::of(gate, wire)
+        Sight::unclear()
     }
+}
+
+// Whether the gate has one role on each of its wires. Which kind it is of can't be foretold, so it is one test.
+fn is_clear(gate: Gate) -> bool
+    ensures { result ≡ true → IsClear gate }
+{
+    has_one_wire(gate) | (gate.first_wire() != gate.last_wire())
 }
 
 // whether the gate has one wire only; its role there is its first and its last

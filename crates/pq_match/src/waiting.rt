@@ -67,7 +67,8 @@ impl Starts {
     }
 
     /// Of the starts in slots where each gate has a free one behind it, at least those wait at which a row may have a redex
-    /// by what is seen next.
+    /// by what is seen next. Nothing is noted of any start then, so that the room of the reaches is free for what is seen of the gates.
+    #[tactic(auto, using(crate::proofs::WakingWords::within_none))]
     pub fn wait_passing(&mut self, gates: &[Gate], next: &[Sides], rules: &Rules)
         requires linked { AreLinkedSlots gates.now next.now }
         requires taken { AreTaken gates.now }
@@ -75,10 +76,24 @@ impl Starts {
         ensures waits { ArePassed rules.now gates.now self.new.waiting }
         ensures room { self.new.room ≡ self.old.room }
     {
+        self.forget_all();
         self.lowest = 0;
+        fill_passing(
+            self.waiting.as_mut_slice(),
+            self.reach.as_mut_slice(),
+            gates,
+            next,
+            rules,
+        );
+    }
+
+    // it isn't known of any start that it failed
+    fn forget_all(&mut self)
+        ensures none { (start : ℕ) → IsNotedFailed self.new start → ⊥ }
+        ensures room { self.new.room ≡ self.old.room }
+    {
         self.failed.as_mut_slice().fill(0);
         self.looked.as_mut_slice().fill(Looked::nowhere());
-        fill_passing(self.waiting.as_mut_slice(), gates, next, rules);
     }
 
     /// The least start that waits, None where none below the end does.

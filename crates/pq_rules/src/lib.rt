@@ -19,5 +19,5 @@ pub use check::check_row;
 pub use lane::Lane;
 pub use row::{RawRow, Row, RowFault};
 pub use rules::{BUILTIN_ROWS, MAX_ROWS, Rules};
-pub use seen::Seen;
+pub use seen::{SEEN, Seen};
 pub use sight::{Sight, kind_number};

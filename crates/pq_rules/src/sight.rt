@@ -58,6 +58,14 @@ impl Sight {
         }
     }
 
+    /// What has this number.
+    pub fn numbered(number: u8) -> Sight
+        requires { number < SEEN }
+        ensures { result ≡ seen_at number }
+    {
+        Sight { number }
+    }
+
     /// Whether a gate of which this is seen passes one of which the other is seen: both act along one axis of the wire.
     pub fn passes(&self, other: &Sight) -> bool
         ensures { result ≡ passes_over self.now other.now }
@@ -66,10 +74,11 @@ impl Sight {
             | (is_along_x(self.number) & is_along_x(other.number))
     }
 
-    /// Its number, below `SEEN`, of each another one.
-    #[tactic(auto, using(crate::proofs::SightLaws::number_seen))]
-    pub(crate) fn number(self) -> u8
+    /// Its number, below `SEEN`, of each another one. `numbered` gives it back.
+    #[tactic(auto, using(crate::proofs::SightLaws::number_seen, crate::proofs::SightLaws::seen_of_number))]
+    pub fn number(self) -> u8
         ensures is { result ≡ seen_number self }
+        ensures back { seen_at result ≡ self }
         ensures below { result < SEEN }
     {
         self.number
