@@ -1,5 +1,5 @@
 -- Sides that are led on for both wires of a gate.
-use Rattle.std.proofs.Common.{◌≡◌, ℕ, ◌<◌, Bool, true, false, List, length, refl, sym, ap, subst, ◌∙◌, arith, inl, inr, ◌⊎◌}
+use Rattle.std.proofs.Common.{◌≡◌, ℕ, ◌<◌, ◌==◌, Bool, true, false, List, length, refl, sym, ap, subst, ◌∙◌, arith, inl, inr, ◌⊎◌}
 use Rattle.std.proofs.lemmas.Bool.{cases_order, eqb-true, eq-eqb}
 use Rattle.pq_gate.specs.declared.gate.Gate.{Gate}
 use Rattle.pq_links.specs.declared.links.Sides.{Sides}
@@ -7,7 +7,7 @@ use Rattle.pq_links.specs.Wires.{wire_of}
 use Rattle.pq_links.specs.Places.{gate_at}
 use Rattle.pq_links.specs.declared.links.Head.{Head}
 use Rattle.pq_links.specs.Links.{side, side_at, is_on, IsEndOn}
-use Rattle.pq_links.specs.Leading.{IsLedAt, AreLed}
+use Rattle.pq_links.specs.Leading.{IsHeadOf, IsLedAt, AreLed}
 
 -- the last gate on a wire is led on to a place
 pub record IsLed (gates : List Gate) (old new : List Sides) (last wire place : ℕ) : Type 0 where
@@ -97,3 +97,12 @@ pub led_ends : (gates : List Gate) (gate : Gate) (first last : Head) (place : �
 led_ends gates gate first last place old mid new one other one_is other_is first_end last_end long mid_long new_long led_first others_first led_last others_last =
     led_twice gates gate (record { first = first.place; second = last.place }) (record { first = place; second = place }) old mid new one other one_is other_is
     (led_end gates old mid first one place long first_end led_first others_first) (led_end gates mid new last other place (mid_long ∙ long) last_end led_last others_last) (new_long ∙ mid_long)
+
+-- a head of a gate, by which of the gate's wires it is on
+pub head_by : (gate : Gate) (place wire : ℕ) (first last : Bool) → (wire_of false gate == wire) ≡ first → (wire_of true gate == wire) ≡ last →
+    IsHeadOf gate place wire (record { wire = wire; place = place; first = first; last = last })
+head_by gate place wire first last on_first on_last = record { at = refl; on = refl; sides = sides }
+  where
+    sides : (one : Bool) → is_on one (record { wire = wire; place = place; first = first; last = last }) ≡ (wire_of one gate == wire)
+    sides true = sym on_last
+    sides false = sym on_first

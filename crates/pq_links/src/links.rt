@@ -34,6 +34,11 @@ pub(crate) struct Head {
     last: bool,
 }
 
+const NO_PLACES: Sides = Sides {
+    first: 65_535,
+    second: 65_535,
+};
+
 const NO_HEAD: Head = Head {
     wire: NO_WIRE,
     place: 65_535,
@@ -107,9 +112,50 @@ impl Links {
         ensures linked { AreLinked (gates.now ++ gate ∷ []) self.new }
         ensures room { self.new.room ≡ self.old.room }
     {
-        let place = gates.len() as u16;
         let wire = gate.first_wire();
         let other = gate.last_wire();
+        if wire == other {
+            self.push_on_one(gates, wire);
+        } else {
+            self.push_on_two(gates, wire, other);
+        }
+    }
+
+    // appends a gate whose only wire is this one
+    fn push_on_one(&mut self, gates: &[Gate], wire: u32)
+        requires linked { AreLinked gates.now self.old }
+        requires room { length gates.now < self.old.room }
+        ensures linked { (gate : Gate) → wire ≡ wire_of false gate → wire ≡ wire_of true gate → AreLinked (gates.now ++ gate ∷ []) self.new }
+        ensures room { self.new.room ≡ self.old.room }
+    {
+        let place = gates.len() as u16;
+        let heads = self.heads.as_slice();
+        let buckets = heads.len();
+        let bucket = bucket_in(wire, buckets);
+        let head = heads[bucket];
+        let end = last_on(gates, self.before.as_slice(), buckets, head, wire);
+        let next = self.next.as_mut_slice();
+        lead_on(next, end, place);
+        self.next.push_reserved(NO_PLACES);
+        self.previous.push_reserved(pair(end.place, end.place));
+        self.before.push_reserved(pair(head.place, head.place));
+        self.heads[bucket] = Head {
+            wire,
+            place,
+            first: true,
+            last: true,
+        };
+    }
+
+    // appends a gate whose first and last wire are these two
+    fn push_on_two(&mut self, gates: &[Gate], wire: u32, other: u32)
+        requires linked { AreLinked gates.now self.old }
+        requires room { length gates.now < self.old.room }
+        requires apart { wire ≢ other }
+        ensures linked { (gate : Gate) → wire ≡ wire_of false gate → other ≡ wire_of true gate → AreLinked (gates.now ++ gate ∷ []) self.new }
+        ensures room { self.new.room ≡ self.old.room }
+    {
+        let place = gates.len() as u16;
         let heads = self.heads.as_slice();
         let buckets = heads.len();
         let bucket = bucket_in(wire, buckets);
@@ -121,20 +167,22 @@ impl Links {
         let next = self.next.as_mut_slice();
         lead_on(next, first, place);
         lead_on(next, last, place);
-        self.next.push_reserved(Sides {
-            first: FAR as u16,
-            second: FAR as u16,
-        });
-        self.previous.push_reserved(Sides {
-            first: first.place,
-            second: last.place,
-        });
-        self.before.push_reserved(Sides {
-            first: head.place,
-            second: other_head.place,
-        });
-        self.heads[bucket] = head_of(gate, place, wire);
-        self.heads[other_bucket] = head_of(gate, place, other);
+        self.next.push_reserved(NO_PLACES);
+        self.previous.push_reserved(pair(first.place, last.place));
+        self.before
+            .push_reserved(pair(head.place, other_head.place));
+        self.heads[bucket] = Head {
+            wire,
+            place,
+            first: true,
+            last: false,
+        };
+        self.heads[other_bucket] = Head {
+            wire: other,
+            place,
+            first: false,
+            last: true,
+        };
     }
 
     /// Becomes the links of these gates.
@@ -213,6 +261,13 @@ pub(crate) fn side_on(gates: &[Gate], sides: &[Sides], place: u32, wire: u32) ->
     }
 }
 
+// a place for each of two wires
+fn pair(first: u16, second: u16) -> Sides
+    ensures { result ≡ record { first = first; second = second } }
+{
+    Sides { first, second }
+}
+
 // the last place on the wire, or FAR where there is none, by the head of the wire's bucket
 fn last_on(gates: &[Gate], before: &[Sides], buckets: usize, head: Head, wire: u32) -> Head
     requires few { length gates.now < FAR }
@@ -257,7 +312,7 @@ fn last_before(gates: &[Gate], before: &[Sides], buckets: usize, from: u16, wire
     NO_HEAD
 }
 
-// the head of a bucket where the gate at the place is the last one, with one of its wires there
+// the head at the place, by which of the gate's wires this one is
 fn head_of(gate: Gate, place: u16, wire: u32) -> Head
     ensures { IsHeadOf gate place wire result }
 {
