@@ -25,7 +25,7 @@ use Rattle.pq_links.proofs.Touching.{touching}
 use Rattle.pq_match.specs.Redex.{HasNoRedex, gate_at}
 use Rattle.pq_match.specs.Seek.{IsClear, IsSeenAt, AreLinkedSlots}
 use Rattle.pq_match.specs.Waiting.{HasNumber, StartsView, IsWaiting}
-use Rattle.pq_match.specs.Settled.{SeesAhead, IsQuiet, IsSettled, AreSettled, ArePassed, ArePassedIn}
+use Rattle.pq_match.specs.Settled.{SeesAhead, IsQuiet, IsSettled, AreSettled, AreSifted, AreSiftedIn}
 use Rattle.pq_match.specs.Work.{AreTaken}
 use Rattle.pq_match.proofs.Settling.{none_quiet}
 
@@ -67,12 +67,12 @@ module _ (rules : List RowView) (gates : List Gate) (next : List Sides) (place :
   }
 
 -- no place yet, and one more
-pub passed_none : (rules : List RowView) (gates : List Gate) (first word : ℕ) → ArePassedIn rules gates first first word
+pub passed_none : (rules : List RowView) (gates : List Gate) (first word : ℕ) → AreSiftedIn rules gates first first word
 passed_none rules gates first word = record { each = λ place from before inside. absurd (omega arith) }
 
-pub passed_more : {rules : List RowView} {gates : List Gate} {first at word then_word : ℕ} (passes : Bool) → ArePassedIn rules gates first at word →
+pub passed_more : {rules : List RowView} {gates : List Gate} {first at word then_word : ℕ} (passes : Bool) → AreSiftedIn rules gates first at word →
     (passes ≡ false → IsQuiet rules gates at) → (passes ≡ true → bit_at then_word (2 * (at - first)) ≡ 1) → ((other : ℕ) → bit_at word other ≡ 1 → bit_at then_word other ≡ 1) →
-    ArePassedIn rules gates first (at + 1) then_word
+    AreSiftedIn rules gates first (at + 1) then_word
 passed_more {rules} {gates} {first} {at} {word} {then_word} passes before quiet has kept = record {
   each = λ place from upto inside. by place from upto inside (cases_eq place at);
 }
@@ -87,15 +87,15 @@ passed_more {rules} {gates} {first} {at} {word} {then_word} passes before quiet 
     by place from upto inside (inr apart) = elim (before.each place from (omega arith) inside) [ inl is ↦ inl (kept (2 * (place - first)) is) | inr is ↦ inr is ]
 
 -- all of a word
-pub passed_all : {rules : List RowView} {gates : List Gate} {first at word : ℕ} → ArePassedIn rules gates first at word → min (length gates) (first + 32) ≤ at →
-    ArePassedIn rules gates first (first + 32) word
+pub passed_all : {rules : List RowView} {gates : List Gate} {first at word : ℕ} → AreSiftedIn rules gates first at word → min (length gates) (first + 32) ≤ at →
+    AreSiftedIn rules gates first (first + 32) word
 passed_all {rules} {gates} {first} {at} passed end = record { each = λ place from upto inside. passed.each place from (omega arith) inside }
 
 -- the first words were gone through
-pub record ArePassedTo (rules : List RowView) (gates : List Gate) (words : List ℕ) (count : ℕ) : Type 0 where
-  pub each : (word : ℕ) → word < count → ArePassedIn rules gates (word * 32) (word * 32 + 32) (get_or words word 0)
+pub record AreSiftedTo (rules : List RowView) (gates : List Gate) (words : List ℕ) (count : ℕ) : Type 0 where
+  pub each : (word : ℕ) → word < count → AreSiftedIn rules gates (word * 32) (word * 32 + 32) (get_or words word 0)
 
-pub filled : {rules : List RowView} {gates : List Gate} {words : List ℕ} → 2 * length gates ≤ 64 * length words → ArePassedTo rules gates words (length words) → ArePassed rules gates words
+pub filled : {rules : List RowView} {gates : List Gate} {words : List ℕ} → 2 * length gates ≤ 64 * length words → AreSiftedTo rules gates words (length words) → AreSifted rules gates words
 filled {rules} {gates} {words} room passed = record {
   each = λ place inside. by place ((passed.each (place / 32) (omega arith)).each place (omega arith) (omega arith) inside);
 }
@@ -187,7 +187,7 @@ module _ (gates : List Gate) (few : 2 * length gates < far) where
       own same = taken p inside (subst (Touches (gate_at gates p)) same (touching (gate_at gates p) true))
 
 -- so each start that doesn't wait is settled
-pub passed_settled : (rules : List RowView) (gates : List Gate) (starts : StartsView) → AreTaken gates → 2 * length gates < far → ArePassed rules gates starts.waiting →
+pub passed_settled : (rules : List RowView) (gates : List Gate) (starts : StartsView) → AreTaken gates → 2 * length gates < far → AreSifted rules gates starts.waiting →
     AreSettled rules (spread gates) starts
 passed_settled rules gates starts taken few passed = record { settled = λ start below asleep. by start asleep (every_slot gates start below) }
   where
@@ -201,7 +201,7 @@ passed_settled rules gates starts taken few passed = record { settled = λ start
     by start asleep (inl (place, same, inside, _)) = at start place same inside asleep (passed.each place inside)
 
 -- and where none waits, there is no redex
-pub passed_still : {rules : List RowView} {gates : List Gate} {waiting : List ℕ} → All IsSound rules → ArePassed rules gates waiting →
+pub passed_still : {rules : List RowView} {gates : List Gate} {waiting : List ℕ} → All IsSound rules → AreSifted rules gates waiting →
     ((start : ℕ) → start < 2 * length gates → HasNumber waiting start → ⊥) → HasNoRedex rules gates
 passed_still {rules} {gates} {waiting} sound passed asleep redex is = by (get_or redex.places 0 0) refl (passed.each (get_or redex.places 0 0) inside)
   where

@@ -64,11 +64,11 @@ pub record AreSettled (rules : List RowView) (slots : List Gate) (starts : Start
   pub settled : (start : ℕ) → start < length slots → (IsWaiting starts start → ⊥) → IsSettled rules slots starts start
 
 -- each gate is quiet, or twice its place is among the numbers
-pub record ArePassed (rules : List RowView) (gates : List Gate) (numbers : List ℕ) : Type 0 where
+pub record AreSifted (rules : List RowView) (gates : List Gate) (numbers : List ℕ) : Type 0 where
   pub each : (place : ℕ) → place < length gates → HasNumber numbers (2 * place) ⊎ IsQuiet rules gates place
 
 -- so it is from a place on and before another one, where the word begins with twice the first place
-pub record ArePassedIn (rules : List RowView) (gates : List Gate) (first end word : ℕ) : Type 0 where
+pub record AreSiftedIn (rules : List RowView) (gates : List Gate) (first end word : ℕ) : Type 0 where
   pub each : (place : ℕ) → first ≤ place → place < end → place < length gates → (bit_at word (2 * (place - first)) ≡ 1) ⊎ IsQuiet rules gates place
 
 -- Two gates on the wire stand behind the start and before each chosen gate on the wire.

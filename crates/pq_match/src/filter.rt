@@ -5,7 +5,7 @@ ghost use Rattle.pq_gate.specs.Commuting.{Touches};
 ghost use Rattle.pq_gate.specs.Ports.{first_wire, last_wire};
 ghost use Rattle.pq_match.specs.Redex.{gate_at};
 ghost use Rattle.pq_match.specs.Seek.{AreLinkedSlots, AreSightsNoted, IsSeenAt, IsSightAt};
-ghost use Rattle.pq_match.specs.Settled.{IsQuiet, ArePassed, ArePassedIn};
+ghost use Rattle.pq_match.specs.Settled.{IsQuiet, AreSifted, AreSiftedIn};
 ghost use Rattle.pq_match.specs.Work.{AreTaken};
 
 use crate::seek::see;
@@ -29,7 +29,7 @@ pub fn fill_passing(
     requires notes { length notes.old ≡ 64 * length words.old }
     requires linked { AreLinkedSlots gates.now next.now }
     requires taken { AreTaken gates.now }
-    ensures passed { ArePassed rules.now gates.now words.new }
+    ensures passed { AreSifted rules.now gates.now words.new }
     ensures notes { length notes.new ≡ length notes.old }
 {
     note_sights(notes, gates);
@@ -96,7 +96,7 @@ fn passing_from(notes: &[u16], gates: &[Gate], next: &[Sides], rules: &Rules, fi
     requires noted { AreSightsNoted gates.now (length gates.now) notes.now }
     requires linked { AreLinkedSlots gates.now next.now }
     requires taken { AreTaken gates.now }
-    ensures { ArePassedIn rules.now gates.now first (first + 32) result }
+    ensures { AreSiftedIn rules.now gates.now first (first + 32) result }
 {
     let end = gates.len().min(first + 32);
     let mut word = 0;

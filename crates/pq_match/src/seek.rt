@@ -98,8 +98,10 @@ pub fn seek_rows(
     ensures finds { SeeksFrom rules.now gates.now start looked.new result }
 {
     let _sound = rules.count();
-    let last = lane_on_last(gates, next, start, looked);
-    let first = lane_on_first(gates, next, start, looked);
+    let mut last = Lane::new();
+    let mut first = Lane::new();
+    lane_on_last(gates, next, start, &mut last, looked);
+    lane_on_first(gates, next, start, &mut first, looked);
     for number in numbers {
         if let Some(redex) = try_row(
             gates, next, rules, *number, start, &last, &first, looked, previous,
@@ -271,7 +273,7 @@ fn choose(
         pattern,
         &grown,
         count + 1,
-        &moved,
+        &mut moved,
         looked,
         previous,
     )
@@ -325,7 +327,7 @@ fn seek(
     pattern: &[Gate],
     places: &[u32; 8],
     count: usize,
-    cursors: &Cursors,
+    cursors: &mut Cursors,
     looked: &mut Looked,
     previous: &[Sides],
 ) -> Option<[u32; 8]>
@@ -336,33 +338,32 @@ fn seek(
     requires some { 0 < count }
     requires grown { IsGrown gates.now pattern.now (length gates.now) places.now count }
     requires eight { AreEight places.now count }
-    requires cursors { AreCursors gates.now pattern.now places.now count (slice_index places.now (count - 1) + 1) cursors.now }
-    requires ahead { AreAhead (slice_index places.now (count - 1) + 1) cursors.now }
+    requires cursors { AreCursors gates.now pattern.now places.now count (slice_index places.now (count - 1) + 1) cursors.old }
+    requires ahead { AreAhead (slice_index places.now (count - 1) + 1) cursors.old }
     requires looked { AreLookedAt gates.now looked.old places.now count }
-    requires marked { AreMarked gates.now looked.old cursors.now }
+    requires marked { AreMarked gates.now looked.old cursors.old }
     requires back { AreLinkedBack gates.now previous.now }
     ensures more { LooksAtMore looked.old looked.new }
     ensures finds { SeeksFull gates.now pattern.now looked.new places.now count result }
 {
-    let mut moved = *cursors;
     let Some(free) = tie(
-        gates, next, pattern, places, count, &mut moved, looked, previous,
+        gates, next, pattern, places, count, cursors, looked, previous,
     ) else {
         return None;
     };
-    let mut place = next_place(gates, &moved, free, pattern[count], places[count - 1] + 1);
+    let mut place = next_place(gates, cursors, free, pattern[count], places[count - 1] + 1);
     looked.look_at(place);
     'walk: while (place as usize) < gates.len() {
         if let Some(found) = choose_by_kind(
-            gates, next, pattern, places, count, &moved, place, looked, previous,
+            gates, next, pattern, places, count, cursors, place, looked, previous,
         ) {
             return Some(found);
         }
         if !is_passable(gates, places, count, place) {
             return None;
         }
-        move_on(gates, next, &mut moved, place);
-        place = next_place(gates, &moved, free, pattern[count], place + 1);
+        move_on(gates, next, cursors, place);
+        place = next_place(gates, cursors, free, pattern[count], place + 1);
         looked.look_at(place);
     }
     None

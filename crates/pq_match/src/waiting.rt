@@ -2,7 +2,7 @@
 
 ghost use Rattle.std.specs.Prelude.{◌≡◌, ◌≢◌, ℕ, ◌+◌, ◌*◌, ◌/◌, ◌<◌, ◌≤◌, ◌⊎◌, ◌↔◌, true, false, bit_and, length, slice_index, IfOk, IfSome, IfNone};
 ghost use Rattle.pq_match.specs.Seek.{AreLinkedSlots};
-ghost use Rattle.pq_match.specs.Settled.{ArePassed};
+ghost use Rattle.pq_match.specs.Settled.{AreSifted};
 ghost use Rattle.pq_match.specs.Work.{AreTaken};
 ghost use Rattle.pq_match.specs.Waiting.{HasNumber, IsWaiting, IsNotedFailed, noted, IsSameOf, WaitMore, AreWoken, AreWokenIn, AreWithin, NoneBefore, AreMet};
 
@@ -73,7 +73,7 @@ impl Starts {
         requires linked { AreLinkedSlots gates.now next.now }
         requires taken { AreTaken gates.now }
         requires room { 2 * length gates.now ≤ self.old.room }
-        ensures waits { ArePassed rules.now gates.now self.new.waiting }
+        ensures waits { AreSifted rules.now gates.now self.new.waiting }
         ensures room { self.new.room ≡ self.old.room }
     {
         self.forget_all();

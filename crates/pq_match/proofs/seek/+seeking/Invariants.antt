@@ -23,11 +23,11 @@ invariant-seek-walk l = record {
   seen : l.place < l.looked.reach;
   more : LooksAtMore l.fn.looked l.looked;
   looked_at : AreLookedAt l.gates l.looked l.places l.count;
-  marked : AreMarked l.gates l.looked l.moved;
+  marked : AreMarked l.gates l.looked l.cursors;
   wide : l.free ≡ true → MarksAll l.looked.mask;
-  tied : l.free ≡ false → IsTiedBy l.gates l.pattern l.looked l.places l.count l.place l.moved;
-  ahead : AreAhead l.place l.moved;
-  stands : l.free ≡ false → l.place < length l.gates → IsAtCursor l.place l.moved;
-  cursors : AreCursors l.gates l.pattern l.places l.count l.place l.moved;
+  tied : l.free ≡ false → IsTiedBy l.gates l.pattern l.looked l.places l.count l.place l.cursors;
+  ahead : AreAhead l.place l.cursors;
+  stands : l.free ≡ false → l.place < length l.gates → IsAtCursor l.place l.cursors;
+  cursors : AreCursors l.gates l.pattern l.places l.count l.place l.cursors;
   walked : IsWalkedAlike l.gates l.pattern l.looked l.places l.count l.place;
 }
