@@ -226,7 +226,7 @@ words_taken words e =
     leaf_takes (built app) nothing_held words refl
     (level_clear (built app).top [] nothing_held words false [] refl refl (sym (leaf_fault (built app) nothing_held words refl) ∙ e))
 
--- an error that isn't for want of memory comes only where the words aren't taken
+-- an error other than out of memory comes only where the words aren't taken
 pub words_untaken : (a : App) (words : List Text) (k : ErrorKind) → a ≡ app → (takes a words ≡ true → k ≡ kind.OutOfMemory) → (k ≡ kind.OutOfMemory → ⊥) → takes app words ≡ false
 words_untaken a words k is passes other = go (takes app words) (λ e. other (passes (ap (λ b. takes b words) is ∙ e)))
   where

@@ -7,7 +7,7 @@ pub IsCircuit-append : (n : ℕ) (a b : List Gate) → IsCircuit n a → IsCircu
 IsCircuit-append n [] b left right = right
 IsCircuit-append n (g ∷ a) b left right = (left.0, IsCircuit-append n a b left.1 right)
 
--- the front of a circuit
+-- the prefix of a circuit
 pub IsCircuit-front : (n : ℕ) (a b : List Gate) → IsCircuit n (a ++ b) → IsCircuit n a
 IsCircuit-front n [] b all = tt
 IsCircuit-front n (g ∷ a) b all = (all.0, IsCircuit-front n a b all.1)

@@ -11,7 +11,7 @@ use Rattle.pq_gate.proofs.CircuitLaws.{IsCircuit-append}
 use Rattle.pq_gate.proofs.ExchangeLaws.{through_exchange}
 use Rattle.pq_gate.proofs.SameLaws.{Same-from_acts, same_congruent}
 
--- two commuting gates at the front of a circuit may be exchanged: no entry changes
+-- two commuting gates at the start of a circuit may be exchanged: no entry changes
 pub entry_exchange : (n : ℕ) (g h : Gate) (c : List Gate) → IsCircuit n (g ∷ h ∷ c) → Commutes g h →
     (x y : List Bool) → Entry (g ∷ h ∷ c) x y ≡ Entry (h ∷ g ∷ c) x y
 entry_exchange n g h c is commutes x y =

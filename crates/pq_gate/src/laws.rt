@@ -88,13 +88,13 @@ pub fn commuting_is_symmetric()
     ensures { (g h : Gate) → Commutes g h → Commutes h g }
 {}
 
-/// Two commuting gates at the front of a circuit may be exchanged: no entry changes.
+/// Two commuting gates at the start of a circuit may be exchanged: no entry changes.
 pub fn commuting_gates_exchange()
     ensures { (n : ℕ) (g h : Gate) (c : List Gate) → IsCircuit n (g ∷ h ∷ c) → Commutes g h →
         (x y : List Bool) → Entry (g ∷ h ∷ c) x y ≡ Entry (h ∷ g ∷ c) x y }
 {}
 
-/// A gate moves past gates that it commutes with: at the front of a circuit no entry changes, and
+/// A gate moves past gates that it commutes with: at the start of a circuit no entry changes, and
 /// the matrix stays the same anywhere in a circuit.
 pub fn a_gate_moves_past_commuting_gates()
     ensures entries { (n : ℕ) (g : Gate) (c b : List Gate) → IsCircuit n (g ∷ c) → AllByRecursion (Commutes g) c →

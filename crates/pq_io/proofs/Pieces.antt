@@ -6,21 +6,21 @@ use Rattle.std.proofs.KnownBytes.{Appends-trans, Consumes-trans}
 use Rattle.std.proofs.Math.Seq.{take-add}
 use Rattle.std.proofs.lemmas.List.{take_rest, take_at, take-append-drop, drop-drop, length-take-le, length-drop, nil_from_length}
 
--- A front of the text was put, and then a front of its rest.
+-- A prefix of the text was put, and then a prefix of its rest.
 pub Appends-more : (before between after : Option (List ℕ)) (text : List ℕ) (sent count : ℕ) → Appends before between (take sent text)
     → Appends between after (take count (take (length text - sent) (drop sent text))) → Appends before after (take (sent + count) text)
 Appends-more before between after text sent count put more =
     let rest : Appends between after (take count (drop sent text)) = subst (λ (piece : List ℕ). Appends between after (take count piece)) (take_rest text sent) more in
     subst (Appends before after) (sym (take-add sent count text)) (Appends-trans before between after _ _ put rest)
 
--- The front of a buffer was taken, and then what comes after it there.
+-- A prefix of a buffer was taken, and then what comes after it there.
 pub Consumes-more : (before between after : Option (List ℕ)) (front buffer : List ℕ) (filled count : ℕ) → take filled buffer ≡ front
     → Consumes before between front → Consumes between after (take count (drop filled buffer)) → Consumes before after (take (filled + count) buffer)
 Consumes-more before between after front buffer filled count same taken more =
     subst (Consumes before after) (sym (take-add filled count buffer))
     (Consumes-trans before between after _ _ (subst (Consumes before between) (sym same) taken) more)
 
--- A call copied the front of what is left of the items from a place on, as much as there is of it, as there was room for, and as a step allows.
+-- A call copied the prefix of what is left of the items from a place on, as much as there is of it, as there was room for, and as a step allows.
 pub record Copies (items into copied : List ℕ) (at step count : ℕ) : Type 0 where
   pub within : at ≤ length items
   pub some : 0 < step

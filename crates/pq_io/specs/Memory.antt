@@ -67,7 +67,7 @@ after_refusing sink = record sink { calls = counted sink.calls; faults = counted
 abbrev pub IsFull : SinkInMemory → Type 0
 IsFull sink = sink.room ≤ length sink.held
 
--- A call took a front of the piece. Its number doesn't stand among those that fail, and some room was free.
+-- A call took a prefix of the piece. Its number doesn't stand among those that fail, and some room was free.
 pub record KeepsFront (old new : SinkInMemory) (piece : List ℕ) (count : ℕ) : Type 0 where
   pub works : ¬ Contains old.fails old.calls
   pub room : ¬ IsFull old

@@ -24,7 +24,7 @@ pub record SureSinkView : Type 0 where
   pub room : ℕ
   pub step : ℕ
 
--- a call took a front of the piece, of which the sink keeps what has room
+-- a call took a prefix of the piece, of which the sink keeps what has room
 pub record KeepsWhatFits (old new : SureSinkView) (piece : List ℕ) (count : ℕ) : Type 0 where
   pub number : count ≡ min old.step (length piece)
   pub rest : new ≡ record old { held = take old.room (old.held ++ take count piece) }

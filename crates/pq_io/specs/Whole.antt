@@ -33,7 +33,7 @@ pub record ReadsSome (before after : Option (List ℕ)) (limit : ℕ) : Type 0 w
   pub within : count ≤ limit + 1
   pub taken : TakesFirst before after count
 
--- What a source had left before and after, its count of faults before and after, the limit, and the answer.
+-- What was left in a source before and after, its count of faults before and after, the limit, and the answer.
 abbrev pub ReadsWhole : Option (List ℕ) → Option (List ℕ) → ℕ → ℕ → ℕ → ReadWhole → Type 0
 ReadsWhole before after was now limit (Bytes read) = ReadsToEnd before after limit read.items
 ReadsWhole before after was now limit (Failed count) = ReadsUpToFault before after was now limit count

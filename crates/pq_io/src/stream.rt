@@ -18,7 +18,7 @@ pub trait Source {
     // How many faults there were. The count stops at 2^64 - 1.
     ghost faults: { Self → ℕ };
 
-    /// Takes the next bytes into the front of `into`, and returns how many. 0 comes only at the end.
+    /// Takes the next bytes into the first places of `into`, and returns how many. 0 comes only at the end.
     /// `Failed` comes only where the count of faults rose in this call, and then nothing was taken.
     fn take(&mut self, into: &mut [u8]) -> Result<usize, Failed>
         requires { 0 < length into.old }
@@ -38,7 +38,7 @@ pub trait Sink {
     // How many faults there were. The count stops at 2^64 - 1.
     ghost faults: { Self → ℕ };
 
-    /// Puts a front of `piece` behind what the sink holds, at least one byte, and returns how many.
+    /// Puts a prefix of `piece` behind what the sink holds, at least one byte, and returns how many.
     /// `Failed` comes only where the count of faults rose in this call, and then nothing was put.
     fn put(&mut self, piece: &[u8]) -> Result<usize, Failed>
         requires { 0 < length piece.now }

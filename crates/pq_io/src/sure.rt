@@ -125,7 +125,7 @@ impl Sink for SureSink {
     }
 }
 
-// Appends the front of a piece that has room. It takes no memory.
+// Appends the prefix of a piece that has room. It takes no memory.
 fn keep(bytes: &mut Vec<u8>, piece: &[u8], free: usize)
     requires { vec_len bytes.old + free ≤ vec_capacity bytes.old }
     ensures kept { bytes.new.items ≡ take (vec_len bytes.old + free) (bytes.old.items ++ piece.now) }

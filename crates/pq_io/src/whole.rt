@@ -17,7 +17,7 @@ pub enum ReadWhole {
     Failed { taken: u64 },
     /// The source gave more bytes than the limit. One more than the limit was taken.
     TooLong,
-    /// A front of what was left was taken.
+    /// A prefix of what was left was taken.
     OutOfMemory,
 }
 

@@ -1,4 +1,4 @@
--- What stands at the front is the same whatever is added at the end, where enough bytes follow it.
+-- What stands at the start is the same whatever is added at the end, where enough bytes follow it.
 use Rattle.std.proofs.Common.{◌≡◌, ℕ, ◌+◌, ◌-◌, ◌<◌, ◌≤◌, Bool, true, false, not, ◌&&◌, ◌||◌, eqb, cond, List, [], ◌∷◌, ◌++◌, length, take, drop, get_or, refl, sym, ap, ◌∙◌, subst, arith, length-append, length-drop}
 use Rattle.std.specs.List.{position_or_len}
 use Rattle.std.specs.Char.{is_ascii_digit, is_ascii_alphabetic}
@@ -178,7 +178,7 @@ blank_none (b ∷ c ∷ rest) more none two =
       ] e
     ] none
 
--- what is skipped at the front of a text with a first byte
+-- what is skipped at the start of a text with a first byte
 skipped : (line column : ℕ) (text : List ℕ) (b : Bool) → eqb (get_or text 0 0) 10 ≡ b → 1 ≤ blank_length text → blank_length text ≤ length text
     → (let p : Position = record { rest = text; line = line; column = column } in tokens p ≡ tokens (cond b (next_line p) (moved (blank_length text) p)))
 skipped line column text true is some within = skip-newline line column text (eqb-true _ _ is)

@@ -322,7 +322,7 @@ past-blank (b ∷ rest) some h =
           | false ↦ λ is some. absurd (omega arith)
         ] refl some
 
--- The token at the front is malformed, or the whole text, or some bytes of it.
+-- The token at the start is malformed, or the whole text, or some bytes of it.
 Next : Front → List ℕ → Type 0
 Next f text = (f ≡ fronted Malformed 0) ⊎ ((text ≡ 59 ∷ []) ⊎ ((is_last f.form ≡ false) × Past f.count text))
 
@@ -549,7 +549,7 @@ count_some : (n : ℕ) → eqb n 0 ≡ false → 1 ≤ n
 count_some zero h = absurd (false≢true (sym h))
 count_some (suc n) h = omega arith
 
--- the token at the front, whatever follows the text
+-- the token at the start, whatever follows the text
 front_on : (line column : ℕ) (b : ℕ) (rest more : List ℕ) (f : Front) → blank_length (b ∷ (rest ++ more)) ≡ 0 → front (b ∷ (rest ++ more)) ≡ f → f.count ≤ length (b ∷ rest)
     → lex 0 (record { line = line; column = column }) (b ∷ (rest ++ more))
     ≡ from_token (placed f (record { line = line; column = column }) (b ∷ rest)) (lex 0 (record { line = line; column = column + f.count }) (drop f.count (b ∷ rest) ++ more))

@@ -72,7 +72,7 @@ lex-token line column (b ∷ rest) none within =
     ∙ then_goes_on f.count (placed f at (b ∷ rest)) (λ more. lex more (after b at) rest) (lex 0 (record { line = line; column = column + f.count }) (drop f.count (b ∷ rest))) p.some
     (λ m e. ap (λ k. lex k at (b ∷ rest)) (sym e) ∙ lex-plain f.count line column (b ∷ rest) p.plain within)
 
--- one step of the cursor, from the token at the front after all that is skipped
+-- one step of the cursor, from the token at the start after all that is skipped
 pub next-token : (old mid : Position) (f : Front) (t : TokenView) (new : Position) → tokens mid ≡ tokens old → blank_length mid.rest ≡ 0
     → f ≡ front mid.rest → f.count ≤ length mid.rest → t ≡ placed f (record { line = mid.line; column = mid.column }) mid.rest
     → new ≡ moved f.count mid → tokens old ≡ from_token t (tokens new)

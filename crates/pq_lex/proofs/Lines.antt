@@ -8,7 +8,7 @@ use Rattle.pq_lex.specs.declared.ends.Mode.TheVariants.{Code, AfterSlash, Commen
 use Rattle.pq_lex.specs.Ends.{after_byte, mode_after, IsEnded, EndsLast}
 use Rattle.pq_lex.proofs.Ending.{ended_after, mode_after-append}
 
--- an end of a text is one of what stands behind a front of it
+-- an end of a text is one of what stands behind a prefix of it
 pub ended_rest : (m : Mode) (text more : List ℕ) → 1 ≤ length more → IsEnded m (text ++ more) → IsEnded (mode_after m text) more
 ended_rest m [] more some h = h
 ended_rest m (x ∷ []) [] some h = absurd (omega arith)
@@ -29,7 +29,7 @@ mode_line m text start some within is =
     ap (λ k. take k text) (sym before) ∙ (take_more text (start - 1) 0 (omega arith) ∙ ap (λ b. take (start - 1) text ++ b ∷ []) is) in
     ap (mode_after m) cut ∙ (mode_after-append m (take (start - 1) text) (10 ∷ []) ∙ newline_code (mode_after m (take (start - 1) text)))
 
--- the mode at the front of a line
+-- the mode at the start of a line
 pub mode_front : (m line : Mode) (text : List ℕ) (start : ℕ) → start ≤ length text → (1 ≤ start → get_or text (start - 1) 0 ≡ 10) → (start ≡ 0 → line ≡ m) → (1 ≤ start → line ≡ Code)
     → line ≡ mode_after m (take start text)
 mode_front m line text zero within newline first other = first refl

@@ -1,4 +1,4 @@
--- A token is the longest front of a text that has a token's form.
+-- A token is the longest prefix of a text that has a token's form.
 use Rattle.std.proofs.Common.{◌≡◌, ◌⊎◌, ℕ, zero, suc, ◌+◌, ◌≤◌, Bool, true, false, not, ◌&&◌, ◌||◌, eqb, cond, List, [], ◌∷◌, ◌++◌, length, take, drop, codes, refl, sym, ap, ◌∙◌, subst, arith, inl, inr, length-append}
 use Rattle.std.specs.List.{position_or_len}
 use Rattle.std.specs.Char.{is_ascii_digit, is_ascii_alphabetic}
@@ -58,7 +58,7 @@ number_taken text some =
         ∙ (ap (λ n. drop n ((w.bytes ++ f.bytes) ++ f.later)) (sym (length-append w.bytes f.bytes)) ∙ drop-append_seam (w.bytes ++ f.bytes) f.later) in
         subst (λ n. Takes IsNumber n text) (λ i. sym is i + exponent_length (sym left i)) (number_of_parts text w f e some)
 
--- What the scanner finds at the front has its form.
+-- What the scanner finds at the start has its form.
 abbrev pub Formed : Form → List ℕ → Type 0
 Formed form bytes = is_last form ≡ false → HasForm form bytes
 
@@ -143,11 +143,11 @@ front_sound (b ∷ rest) =
     by_test P (is_ascii_digit b || eqb b 46) (number_front (b ∷ rest)) _ (λ _. number_sound (b ∷ rest)) (λ _.
     by_test P (eqb b 34) (quoted_front rest) (mark_front b rest) (λ is. quoted_sound b rest is) (λ _. mark_sound b rest)))
 
--- a number at the front counts whole
+-- a number at the start counts whole
 AreStopped : List ℕ → Type 0
 AreStopped rest = (position_or_len is_no_digit rest ≡ 0) × (fraction_length rest ≡ 0)
 
--- the digits and the fraction at the front: at least these, and no more where neither goes on
+-- the digits and the fraction at the start: at least these, and no more where neither goes on
 mantissa_counted : (whole fraction rest : List ℕ) → AreDigits whole → IsFraction fraction
     → (let text : List ℕ = whole ++ (fraction ++ rest) in
     let all : ℕ = position_or_len is_no_digit text + fraction_length (drop (position_or_len is_no_digit text) text) in

@@ -11,7 +11,7 @@ use Rattle.pq_lex.specs.Grammar.{AreDigits, IsFraction, IsSigned, IsExponent}
 use Rattle.pq_lex.proofs.Plain.{by_test, and_both}
 use Rattle.pq_lex.proofs.Direct.{digit_is}
 
--- so many bytes at the front, and what they are
+-- so many bytes at the start, and what they are
 pub record Takes (P : List ℕ → Type 0) (count : ℕ) (text : List ℕ) : Type 0 where
   pub bytes : List ℕ
   pub later : List ℕ
@@ -26,7 +26,7 @@ later_is t = (λ i. drop (t.counted i) (t.is i)) ∙ drop-append_seam t.bytes t.
 pub nothing : (P : List ℕ → Type 0) (text : List ℕ) → P [] → Takes P 0 text
 nothing P text h = record { bytes = []; later = text; is = refl; counted = refl; formed = h }
 
--- the bytes at the front that pass are as many as there are before the first that doesn't
+-- the bytes at the start that pass are as many as there are before the first that doesn't
 pub passing : (p q : ℕ → Bool) → ((b : ℕ) → p b ≡ false → q b ≡ true) → (text : List ℕ) → Takes (λ bytes. list_all q bytes ≡ true) (position_or_len p text) text
 passing p q turn [] = nothing (λ bytes. list_all q bytes ≡ true) [] refl
 passing p q turn (b ∷ rest) =
@@ -99,7 +99,7 @@ exponent_taken (b ∷ c ∷ rest) =
     unsigned [] all some = absurd (omega arith)
     unsigned (d ∷ ds) all some = inl all
 
--- an exponent at the front counts whole
+-- an exponent at the start counts whole
 signed_least : (n k : ℕ) (digits more : List ℕ) → AreDigits digits → 1 ≤ length digits → n ≡ k + length digits → n ≤ some_digits k (digits ++ more)
 signed_least n k digits more all some is =
     let e : position_or_len is_no_digit (digits ++ more) ≡ length digits + position_or_len is_no_digit more = digits_passed digits more all in

@@ -84,7 +84,7 @@ plain-exponent (b ∷ rest) =
     (λ is. plain-exponent_digits b rest (elim (or_cases _ _ is) [ inl p ↦ is_other b 101 p refl | inr m ↦ is_other b 69 m refl ]))
     (λ _. plain-none (b ∷ rest))
 
--- What stands at the front takes bytes without newline, and it takes none exactly where it is the last.
+-- What stands at the start takes bytes without newline, and it takes none exactly where it is the last.
 pub record IsPlain (text : List ℕ) (f : Front) : Type 0 where
   pub plain : Plain f.count text
   pub some : eqb f.count 0 ≡ is_last f.form

@@ -10,18 +10,18 @@ use Rattle.pq_lex.specs.Lex.{placed, Position, moved, next_line, tokens, from_to
 abbrev pub extended : Position → List ℕ → Position
 extended p more = record { rest = p.rest ++ more; line = p.line; column = p.column }
 
--- after what is skipped as one at the front
+-- after what is skipped as one at the start
 abbrev pub after_blank : Position → Position
 after_blank p = if slice_index p.rest 0 == 10 then next_line p else moved (blank_length p.rest) p
 
--- the token at the front where nothing is skipped, and the position after it
+-- the token at the start where nothing is skipped, and the position after it
 abbrev pub first_token : Position → TokenView
 first_token p = placed (front p.rest) (record { line = p.line; column = p.column }) p.rest
 
 abbrev pub after_token : Position → Position
 after_token p = moved (front p.rest).count p
 
--- What is skipped at the front is skipped whatever is added, if a byte follows it. The token at the front is
+-- What is skipped at the start is skipped whatever is added, if a byte follows it. The token at the start is
 -- the same whatever is added, if it isn't malformed and three bytes follow it (as many as decide that the
 -- `e` after a number begins no exponent). Bytes that are added change only what stands after.
 pub record ChangesLater (p : Position) (more : List ℕ) : Type 0 where
@@ -36,11 +36,11 @@ pub record StaysMalformed (p : Position) : Type 0 where
   pub malformed : token.form ≡ Malformed
   pub always : (more : List ℕ) → tokens (extended p more) ≡ token ∷ []
 
--- Nothing tells yet what further bytes make of the front: it is one byte at most, or a `"` whose line doesn't end.
+-- Nothing tells yet what further bytes make of the start: it is one byte at most, or a `"` whose line doesn't end.
 abbrev pub IsUndecided : List ℕ → Type 0
 IsUndecided text = (length text < 2) ⊎ (slice_index text 0 ≡ 34) × (length (drop 1 text) ≤ position_or_len is_newline (drop 1 text))
 
--- No token at the front is sure to stay: all of the text is skipped as one, or nothing is skipped, and the token is the
+-- No token at the start is sure to stay: all of the text is skipped as one, or nothing is skipped, and the token is the
 -- last one or has fewer than three bytes behind it.
 abbrev pub IsUnsure : List ℕ → Type 0
 IsUnsure text = (blank_length text ≡ length text) ⊎ (blank_length text ≡ 0) × ((is_last (front text).form ≡ true) ⊎ (length text < (front text).count + 3))

@@ -1,4 +1,4 @@
--- What stands at the front of a text: the longest form that fits.
+-- What stands at the start of a text: the longest form that fits.
 use Rattle.std.specs.Prelude.{ℕ, ◌+◌, Bool, false, not, ◌&&◌, ◌||◌, ◌==◌, List, [], ◌∷◌, drop, if◌then◌else◌}
 use Rattle.std.specs.List.{position_or_len}
 use Rattle.std.specs.Char.{is_ascii_digit, is_ascii_alphabetic, is_ascii_alphanumeric}
@@ -26,7 +26,7 @@ is_unquotable b = b == 10 || b == 34
 abbrev pub is_separator : ℕ → Bool
 is_separator b = b == 32 || b == 9 || b == 13 || b == 10
 
--- How many bytes at the front are skipped as one: a separator, or a comment up to the newline or the end.
+-- How many bytes at the start are skipped as one: a separator, or a comment up to the newline or the end.
 abbrev pub comment_length : List ℕ → ℕ
 comment_length (b ∷ c ∷ rest) = if b == 47 && c == 47 then 2 + position_or_len is_newline rest else 0
 comment_length _ = 0

@@ -1,4 +1,4 @@
--- Which bytes have the form of a token, and that a token is the longest front of a text that has one.
+-- Which bytes have the form of a token, and that a token is the longest prefix of a text that has one.
 use Rattle.std.specs.Prelude.{◌≡◌, ◌⊎◌, ℕ, ◌≤◌, Bool, true, false, not, ◌||◌, ◌==◌, List, [], ◌∷◌, ◌++◌, length, codes}
 use Rattle.std.specs.List.{list_all}
 use Rattle.std.specs.Char.{is_ascii_digit, is_ascii_alphabetic}
@@ -81,13 +81,13 @@ HasForm Missing bytes = ⊥
 HasForm Malformed bytes = ⊥
 HasForm form bytes = IsMark form bytes
 
--- A separator or a comment stands at the front.
+-- A separator or a comment stands at the start.
 abbrev pub BeginsBlank : List ℕ → Type 0
 BeginsBlank [] = ⊥
 BeginsBlank (b ∷ []) = is_separator b ≡ true
 BeginsBlank (b ∷ c ∷ rest) = (is_separator b ≡ true) ⊎ (b ≡ 47) × (c ≡ 47)
 
--- The token stands at the front of a text. Its bytes have its form, and no longer front of the text has any form;
+-- The token stands at the start of a text. Its bytes have its form, and no longer prefix of the text has any form;
 -- a missing or a malformed token has no bytes, and only the end of the text is missing.
 pub record IsLongest (p : Position) (t : TokenView) : Type 0 where
   pub place : (t.line ≡ p.line) × (t.column ≡ p.column)

@@ -14,7 +14,7 @@ pub record Place : Type 0 where
 abbrev pub after : ℕ → Place → Place
 after b at = if b == 10 then record { line = at.line + 1; column = 1 } else record { line = at.line; column = at.column + 1 }
 
--- a token at a place: its form, and its bytes at the front of a text
+-- a token at a place: its form, and its bytes at the start of a text
 abbrev pub placed : Front → Place → List ℕ → TokenView
 placed f at text = record { form = f.form; bytes = take f.count text; line = at.line; column = at.column }
 
@@ -23,7 +23,7 @@ abbrev pub then_rest : ℕ → TokenView → (ℕ → List TokenView) → List T
 then_rest zero t rest = t ∷ []
 then_rest (suc more) t rest = t ∷ rest more
 
--- The bytes at the front are skipped where there are some to skip, else there is a token.
+-- The bytes at the start are skipped where there are some to skip, else there is a token.
 abbrev pub shown : ℕ → Front → Place → List ℕ → (ℕ → List TokenView) → List TokenView
 shown (suc more) f at text rest = rest more
 shown zero f at text rest = then_rest f.count (placed f at text) rest

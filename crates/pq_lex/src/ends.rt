@@ -116,7 +116,7 @@ fn before_line(text: &[u8]) -> usize
     left
 }
 
-// The mode at the front of a line: a newline ends comments and quoted texts.
+// The mode at the start of a line: a newline ends comments and quoted texts.
 fn mode_at(mode: Mode, start: usize) -> Mode
     ensures first { start ≡ 0 → result ≡ mode }
     ensures other { 1 ≤ start → result ≡ Code }

@@ -43,7 +43,7 @@ fn ends_quoted(byte: u8) -> bool
     byte == b'\n' || byte == b'"'
 }
 
-// How many bytes at the front a word may have.
+// How many bytes at the start a word may have.
 #[inline(always)]
 fn word_bytes(text: &[u8]) -> usize
     ensures place { result ≡ position_or_len is_outside_word text.now }
@@ -57,7 +57,7 @@ fn word_bytes(text: &[u8]) -> usize
     text.len()
 }
 
-// How many digits there are at the front.
+// How many digits there are at the start.
 #[inline(always)]
 fn digits(text: &[u8]) -> usize
     ensures place { result ≡ position_or_len is_no_digit text.now }
@@ -123,7 +123,7 @@ fn exponent_rest(text: &[u8]) -> usize
     }
 }
 
-// How many bytes an exponent at the front has, 0 where there is none.
+// How many bytes an exponent at the start has, 0 where there is none.
 #[inline(always)]
 fn exponent(text: &[u8]) -> usize
     ensures count { result ≡ exponent_length text.now }
@@ -135,7 +135,7 @@ fn exponent(text: &[u8]) -> usize
     }
 }
 
-// How many bytes a `.` at the front and the digits after it have, 0 where there is none.
+// How many bytes a `.` at the start and the digits after it have, 0 where there is none.
 #[inline(always)]
 fn fraction(text: &[u8]) -> usize
     ensures count { result ≡ fraction_length text.now }
@@ -234,7 +234,7 @@ fn mark(first: u8, rest: &[u8]) -> (Form, usize)
     }
 }
 
-/// The form of the token at the front of a text that nothing is skipped of, and how many bytes it
+/// The form of the token at the start of a text that nothing is skipped of, and how many bytes it
 /// has: none for the end of the text and for what is malformed.
 #[tactic(auto, unfolding(crate::specs::Front::front))]
 #[inline(always)]
@@ -271,7 +271,7 @@ pub(crate) fn byte_of(mark: Form) -> u8
     }
 }
 
-/// How many bytes the word at the front of a text has that nothing is skipped of, 0 where there is none.
+/// How many bytes the word at the start of a text has that nothing is skipped of, 0 where there is none.
 #[inline(always)]
 pub(crate) fn word_front(text: &[u8]) -> usize
     ensures front { 1 ≤ result → fronted Word result ≡ front text.now }
@@ -284,7 +284,7 @@ pub(crate) fn word_front(text: &[u8]) -> usize
     }
 }
 
-// How many digits there are at the front, and their value.
+// How many digits there are at the start, and their value.
 #[inline(always)]
 fn valued_digits(text: &[u8]) -> (usize, u32)
     ensures place { result.0 ≡ position_or_len is_no_digit text.now }
@@ -302,7 +302,7 @@ fn valued_digits(text: &[u8]) -> (usize, u32)
     (text.len(), value)
 }
 
-/// How many bytes the integer at the front of a text has that nothing is skipped of, and its value. There are
+/// How many bytes the integer at the start of a text has that nothing is skipped of, and its value. There are
 /// none where no integer is there.
 #[inline(always)]
 pub(crate) fn integer_front(text: &[u8]) -> (usize, u32)
@@ -321,7 +321,7 @@ pub(crate) fn integer_front(text: &[u8]) -> (usize, u32)
     }
 }
 
-/// How many bytes at the front of a text are skipped as one: a separator, or a comment.
+/// How many bytes at the start of a text are skipped as one: a separator, or a comment.
 #[inline(always)]
 pub(crate) fn blank_front(text: &[u8]) -> usize
     ensures count { result ≡ blank_length text.now }

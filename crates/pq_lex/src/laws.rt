@@ -17,8 +17,8 @@ pub fn texts_have_tokens()
     ensures { (p : Position) → 1 ≤ length (tokens p) }
 {}
 
-/// Bytes that are added at the end of a text change only what stands after: what is skipped at the front, if
-/// a byte follows it, and the token at the front, if it isn't malformed and three bytes follow it, stay.
+/// Bytes that are added at the end of a text change only what stands after: what is skipped at the start, if
+/// a byte follows it, and the token at the start, if it isn't malformed and three bytes follow it, stay.
 pub fn added_bytes_change_what_follows()
     ensures { (p : Position) (more : List ℕ) → ChangesLater p more }
 {}
@@ -29,7 +29,7 @@ pub fn texts_end_for_good()
     ensures { (p : Position) → 1 ≤ p.column → IsEnded Code p.rest → EndsForGood p }
 {}
 
-/// Where nothing is to be skipped, the first token is the longest front of the text that has the form of a word, a
+/// Where nothing is to be skipped, the first token is the longest prefix of the text that has the form of a word, a
 /// number, a quoted text or a mark.
 pub fn tokens_are_longest()
     ensures { (p : Position) → BeginsLongest p }

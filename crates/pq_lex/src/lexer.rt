@@ -38,7 +38,7 @@ impl<'t> Model for Lexer<'t> {
 }
 
 impl<'t> Lexer<'t> {
-    /// A cursor at the front of a text.
+    /// A cursor at the start of a text.
     pub fn new(text: &'t [u8]) -> Lexer<'t>
         requires { length text.now ≤ MAX_INPUT }
         ensures position { result ≡ record { rest = text.entry.now; line = 1; column = 1 } }
@@ -109,7 +109,7 @@ impl<'t> Lexer<'t> {
         self.rest = &rest[1..];
     }
 
-    // Goes over what is skipped as one at the front.
+    // Goes over what is skipped as one at the start.
     #[inline(always)]
     fn skip_one(&mut self, count: usize)
         requires some { 1 ≤ count }
@@ -155,7 +155,7 @@ impl<'t> Lexer<'t> {
         self.rest = &rest[..2];
     }
 
-    // Goes over what is skipped at the front and followed by a byte.
+    // Goes over what is skipped at the start and followed by a byte.
     fn skip_followed(&mut self)
         ensures same { (more : List ℕ) → tokens (extended self.new more) ≡ tokens (extended self.old more) }
         ensures mode { mode_after Code self.new.rest ≡ mode_after Code self.old.rest }
@@ -186,7 +186,7 @@ impl<'t> Lexer<'t> {
         }
     }
 
-    // Goes over the token at the front, where nothing is skipped.
+    // Goes over the token at the start, where nothing is skipped.
     #[inline(always)]
     fn take(&mut self, form: Form, count: usize) -> Token<'t>
         requires none { blank_length self.old.rest ≡ 0 }

@@ -364,6 +364,6 @@ pushed gates gate old new first second buckets last led before one other linked 
 pub same_place : {heads old : List Head} {k bucket : ℕ} → heads ≡ old → k ≡ bucket → (head_at heads k).place ≡ (head_at old bucket).place
 same_place {heads} {old} {k} {bucket} same is = ap (λ (xs : List Head). (head_at xs k).place) same ∙ ap (λ (j : ℕ). (head_at old j).place) is
 
--- what is left of a list whose whole front was written
+-- what is left of a list whose whole prefix was written
 pub all_written : {X : Type 0} (n : ℕ) (xs ys : List X) → n ≡ length xs → take n (xs ++ drop (length xs) ys) ≡ xs
 all_written n xs ys same = take-append-le n xs (drop (length xs) ys) (omega arith) ∙ (ap (λ (k : ℕ). take k xs) same ∙ take-length xs)

@@ -36,14 +36,14 @@ every_slot (gate ∷ gates) zero below = inl (0, refl, omega arith, refl)
 every_slot (gate ∷ gates) (suc zero) below = inr refl
 every_slot (gate ∷ gates) (suc (suc q)) below = elim (every_slot gates q (omega arith)) [ inl at ↦ inl (suc at.0, (let e : q ≡ 2 * at.0 = at.1 in omega arith), (let l : at.0 < length gates = at.2 in omega arith), at.3) | inr free ↦ inr free ]
 
-doubled_in : (count n : ℕ) → n < count → doubled count n ≡ 2 * n
+pub doubled_in : (count n : ℕ) → n < count → doubled count n ≡ 2 * n
 doubled_in count n below = grind (arith, nat_tests)
 
-doubled_past : (count n : ℕ) → count ≤ n → doubled count n ≡ far
+pub doubled_past : (count n : ℕ) → count ≤ n → doubled count n ≡ far
 doubled_past count n past = grind (arith, nat_tests)
 
 -- the next place, in slots
-doubled_next : (gates : List Gate) (wire p n : ℕ) → wire ≢ no_wire → 2 * length gates < far → p < length gates → IsNextOn gates wire (p + 1) n →
+pub doubled_next : (gates : List Gate) (wire p n : ℕ) → wire ≢ no_wire → 2 * length gates < far → p < length gates → IsNextOn gates wire (p + 1) n →
     IsNextOn (spread gates) wire (2 * p + 1) (doubled (length gates) n)
 doubled_next gates wire p n valid few inside next = by (cases_lt n (length gates))
   where

@@ -7,16 +7,11 @@ ghost use Rattle.pq_links.specs.Links.{AreLinked, IsLastOn};
 ghost use Rattle.pq_links.specs.Slots.{free_slot, spread, AreSlots, ArePrevious, AreChained, IsGap};
 ghost use Rattle.pq_links.specs.Leading.{doubled, AreSpread};
 
-use crate::links::{FAR, Links, NO_WIRE, Sides, lead_both, next_on, side_on};
+use crate::links::{FAR, Links, NO_PLACES, NO_WIRE, Sides, lead_both, next_on, side_on};
 use pq_gate::Gate;
 use pq_list::OutOfMemory;
 use std::alloc::Global;
 use std::marker::Model;
-
-const NOWHERE: Sides = Sides {
-    first: 65_535,
-    second: 65_535,
-};
 
 /// The places on a wire on both sides of a place: the last one before it, and the first one from it on. Each is `FAR`
 /// where there is none.
@@ -185,7 +180,7 @@ fn spread_sides(sides: &[Sides], spread: &mut Vec<Sides>)
             first: double(count, to.first),
             second: double(count, to.second),
         });
-        spread.push_reserved(NOWHERE);
+        spread.push_reserved(NO_PLACES);
     }
 }
 

@@ -34,7 +34,8 @@ pub(crate) struct Head {
     last: bool,
 }
 
-const NO_PLACES: Sides = Sides {
+/// No place for either wire.
+pub(crate) const NO_PLACES: Sides = Sides {
     first: 65_535,
     second: 65_535,
 };

@@ -56,7 +56,7 @@ pub fn work_over_board<'r, R: Threads + Sync, G: WorkGate>(
     Ok((results, board.close(pass)))
 }
 
-/// A board, or want of memory.
+/// A board, or that there is no memory for it.
 fn opened(
     alloc: Global,
     words: WordList,

@@ -1,4 +1,4 @@
--- The order of lists of numbers in a dictionary, where a front comes before the whole.
+-- The order of lists of numbers in a dictionary, where a prefix comes before the whole.
 use Rattle.std.proofs.Common.{◌≡◌, ℕ, ◌<◌, List, [], ◌∷◌, length, ◌⊎◌, inl, inr, refl, sym, ◌∙◌, arith}
 use Rattle.std.proofs.lemmas.Bool.{cases_order}
 use Rattle.pq_match.specs.First.{Precedes}

@@ -42,7 +42,7 @@ abbrev pub Rise : ℕ → List ℕ → ℕ → Type 0
 Rise from [] end = Unit {0}
 Rise from (p ∷ places) end = (from ≤ p) × (p < end) × Rise (p + 1) places end
 
--- one gate more at the front: if it is chosen, it moves past the gates that aren't
+-- one gate more at the start: if it is chosen, it moves past the gates that aren't
 gathered_more : (n : ℕ) (g : Gate) (c u v : List Gate) (b : Bool) → IsCircuit n (g ∷ c) → (b ≡ true → AllByRecursion (Commutes g) u) →
     Same n c (u ++ v) 0 → Same n (g ∷ c) ((if b then u else g ∷ u) ++ (if b then g ∷ v else v)) 0
 gathered_more n g c u v true is free same =
@@ -69,7 +69,7 @@ StandAt-each whole from (g ∷ c) each = (
   StandAt-each whole (from + 1) c (λ k below. each (suc k) (omega arith) ∙ ap (gate_at whole) (omega arith)),
 )
 
--- the front of a list stands in it
+-- a prefix of a list stands in it
 pub StandAt-front : (whole : List Gate) (count : ℕ) → StandAt whole 0 (take count whole)
 StandAt-front whole count =
     StandAt-each whole 0 (take count whole)
@@ -190,7 +190,7 @@ Rise_to_last (p ∷ q ∷ places) lo end rise =
     let rest : Rise (p + 1) (q ∷ places) (last_place (q ∷ places) + 1) = Rise_to_last (q ∷ places) (p + 1) end rise.2 in
     (rise.0, omega arith, rest)
 
--- the places lie in the front up to the last of them
+-- the places lie in the prefix up to the last of them
 Rise-front : (whole : List Gate) (places : List ℕ) (lo : ℕ) → Rise lo places (length whole) →
     Rise lo places (length (take (last_place places + 1) whole))
 Rise-front whole [] lo rise = tt
@@ -222,7 +222,7 @@ IsRenaming-used m n e p wires used all = record {
       omega arith;
 }
 
--- a part that was gathered behind the front may be replaced
+-- a part that was gathered behind the prefix may be replaced
 replaced : (n k : ℕ) (front back u p q : List Gate) → Same n front (u ++ p) 0 → IsCircuit n back → Same n p q k → k ≤ 7 →
     Same n (front ++ back) (u ++ (q ++ back)) k
 replaced n k front back u p q gathers behind same few =
@@ -233,7 +233,7 @@ replaced n k front back u p q gathers behind same few =
     subst (λ (j : ℕ). Same n (front ++ back) (u ++ (q ++ back)) j) (let turn : (0 + k) % 8 ≡ k = omega arith in turn)
     (same_transitive n 0 k (front ++ back) (u ++ (p ++ back)) (u ++ (q ++ back)) first second)
 
--- the chosen gates of the front are the pattern's
+-- the chosen gates of the prefix are the pattern's
 chosen_pattern : (gates pattern : List Gate) (wires places : List ℕ) → IsMatch gates pattern wires places →
     chosen places 0 (take (last_place places + 1) gates) ≡ map (renamed wires) pattern
 chosen_pattern gates pattern wires places matches =
@@ -243,7 +243,7 @@ chosen_pattern gates pattern wires places matches =
     Rise-each places 0 (length gates) matches.rising matches.inside (λ k below. omega arith) in
     chosen_gates gates places 0 (length front) front (StandAt-front gates count) (omega arith) (Rise-front gates places 0 rise) ∙ matches.chosen
 
--- the front of the list, with the pattern's gates gathered at its end
+-- the prefix of the list, with the pattern's gates gathered at its end
 gathered_pattern : (gates pattern : List Gate) (wires places : List ℕ) (n : ℕ) →
     IsMatch gates pattern wires places → AreFree gates places → IsCircuit n (take (last_place places + 1) gates) →
     Same n (take (last_place places + 1) gates)

@@ -19,8 +19,7 @@ use Rattle.pq_links.specs.declared.links.Sides.{Sides}
 use Rattle.pq_links.specs.Links.{far, side_at, IsNextOn}
 use Rattle.pq_links.specs.Slots.{no_wire, free_slot, spread}
 use Rattle.pq_links.specs.Leading.{doubled}
-use Rattle.pq_links.proofs.Changing.{free_uses}
-use Rattle.pq_links.proofs.Spreading.{length_spread, own_slot, every_slot}
+use Rattle.pq_links.proofs.Spreading.{length_spread, own_slot, every_slot, doubled_in, doubled_past, doubled_next}
 use Rattle.pq_links.proofs.Touching.{touching}
 use Rattle.pq_match.specs.Redex.{HasNoRedex, gate_at}
 use Rattle.pq_match.specs.Seek.{IsClear, IsSeenAt, AreLinkedSlots}
@@ -109,52 +108,23 @@ filled {rules} {gates} {words} room passed = record {
 
 -- gates spread over slots
 module _ (gates : List Gate) (few : 2 * length gates < far) where
-  inside_slot : (n : ℕ) → n < length gates → doubled (length gates) n ≡ 2 * n
-  inside_slot n below = grind (arith, nat_tests)
-
-  past_slot : (n : ℕ) → length gates ≤ n → doubled (length gates) n ≡ far
-  past_slot n past = grind (arith, nat_tests)
-
   same_at : (n : ℕ) → gate_at (spread gates) (doubled (length gates) n) ≡ gate_at gates n
   same_at n = by (cases_lt n (length gates))
     where
       by : (n < length gates) ⊎ (length gates ≤ n) → gate_at (spread gates) (doubled (length gates) n) ≡ gate_at gates n
-      by (inl below) = ap (gate_at (spread gates)) (inside_slot n below) ∙ own_slot gates n below
+      by (inl below) = ap (gate_at (spread gates)) (doubled_in (length gates) n below) ∙ own_slot gates n below
       by (inr past) =
-          get_or_past (spread gates) (doubled (length gates) n) (H 0) (omega (arith, past_slot n past, length_spread gates)) ∙ sym (get_or_past gates n (H 0) past)
+          get_or_past (spread gates) (doubled (length gates) n) (H 0) (omega (arith, doubled_past (length gates) n past, length_spread gates)) ∙ sym (get_or_past gates n (H 0) past)
 
   seen_spread : (wire n : ℕ) (what : Seen) → IsSeenAt gates wire n what → IsSeenAt (spread gates) wire (doubled (length gates) n) what
-  seen_spread wire n seen.Nothing is = omega (arith, past_slot n is, length_spread gates)
+  seen_spread wire n seen.Nothing is = omega (arith, doubled_past (length gates) n is, length_spread gates)
   seen_spread wire n seen.Unclear is = is
   seen_spread wire n (seen.Plays own) is = subst (λ (g : Gate). (own ≡ role_on wire g) × IsClear g) (sym (same_at n)) is
-
-  next_spread : (wire p n : ℕ) → wire ≢ no_wire → p < length gates → IsNextOn gates wire (p + 1) n → IsNextOn (spread gates) wire (2 * p + 1) (doubled (length gates) n)
-  next_spread wire p n valid inside next = by (cases_lt n (length gates))
-    where
-      none : (q : ℕ) → 2 * p + 1 ≤ q → q < 2 * n → q < length (spread gates) → ¬ Touches (gate_at (spread gates) q) wire
-      none q above below in_list = elim (every_slot gates q in_list) [
-        | inl at ↦ subst (λ (g : Gate). ¬ Touches g wire) (sym at.3) (let e : q ≡ 2 * at.0 = at.1 in next.none at.0 (omega arith) (omega arith) at.2)
-        | inr free ↦ free_uses wire (gate_at (spread gates) q) free valid
-      ]
-
-      by : (n < length gates) ⊎ (length gates ≤ n) → IsNextOn (spread gates) wire (2 * p + 1) (doubled (length gates) n)
-      by (inl below) = (let at : doubled (length gates) n ≡ 2 * n = inside_slot n below in let l : length (spread gates) ≡ 2 * length gates = length_spread gates in record {
-        ahead = (let a : p + 1 ≤ n = next.ahead in omega arith);
-        uses = λ _. subst (λ (g : Gate). Touches g wire) (sym (same_at n)) (next.uses below);
-        none = λ q above less in_list. none q above (omega arith) in_list;
-        past = λ past. absurd (omega arith);
-      })
-      by (inr past) = (let at : doubled (length gates) n ≡ far = past_slot n past in let l : length (spread gates) ≡ 2 * length gates = length_spread gates in record {
-        ahead = omega arith;
-        uses = λ low. absurd (omega arith);
-        none = λ q above low in_list. none q above (omega arith) in_list;
-        past = λ _. at;
-      })
 
   ahead_spread : (wire p one other : ℕ) (near beyond : Seen) → wire ≢ no_wire → p < length gates → SeesAhead gates wire p one other near beyond →
       SeesAhead (spread gates) wire (2 * p) (doubled (length gates) one) (doubled (length gates) other) near beyond
   ahead_spread wire p one other near beyond valid inside ahead = record {
-    next = next_spread wire p one valid inside ahead.next;
+    next = doubled_next gates wire p one valid few inside ahead.next;
     behind = behind (cases_lt one (length gates));
     past = past (cases_lt one (length gates));
     near_is = seen_spread wire one near ahead.near_is;
@@ -164,12 +134,12 @@ module _ (gates : List Gate) (few : 2 * length gates < far) where
       behind : (one < length gates) ⊎ (length gates ≤ one) → doubled (length gates) one < length (spread gates) →
           IsNextOn (spread gates) wire (doubled (length gates) one + 1) (doubled (length gates) other)
       behind (inl below) low =
-          subst (λ (m : ℕ). IsNextOn (spread gates) wire (m + 1) (doubled (length gates) other)) (sym (inside_slot one below)) (next_spread wire one other valid below (ahead.behind below))
-      behind (inr out) low = absurd (omega (arith, past_slot one out, length_spread gates))
+          subst (λ (m : ℕ). IsNextOn (spread gates) wire (m + 1) (doubled (length gates) other)) (sym (doubled_in (length gates) one below)) (doubled_next gates wire one other valid few below (ahead.behind below))
+      behind (inr out) low = absurd (omega (arith, doubled_past (length gates) one out, length_spread gates))
 
       past : (one < length gates) ⊎ (length gates ≤ one) → length (spread gates) ≤ doubled (length gates) one → length (spread gates) ≤ doubled (length gates) other
-      past (inl below) out = absurd (omega (arith, inside_slot one below, length_spread gates))
-      past (inr over) out = omega (arith, past_slot other (ahead.past over), length_spread gates)
+      past (inl below) out = absurd (omega (arith, doubled_in (length gates) one below, length_spread gates))
+      past (inr over) out = omega (arith, doubled_past (length gates) other (ahead.past over), length_spread gates)
 
   quiet_spread : (rules : List RowView) (p : ℕ) → AreTaken gates → p < length gates → IsQuiet rules gates p → IsQuiet rules (spread gates) (2 * p)
   quiet_spread rules p taken inside quiet = record {

@@ -45,7 +45,7 @@ one_free gate rest free = ap (λ (b : Bool). cond b (gates_in rest) (gate ∷ ga
 one_taken : (gate : Gate) → is_free gate ≡ false → gates_in (gate ∷ []) ≡ gate ∷ []
 one_taken gate taken = ap (λ (b : Bool). cond b [] (gate ∷ [])) taken
 
--- free slots at the end of a front play no part
+-- free slots at the end of a prefix play no part
 skip_front : (xs : List Gate) (a n : ℕ) → a + n ≤ length xs → ((p : ℕ) → a ≤ p → p < a + n → is_free (gate_at xs p) ≡ true) →
     gates_in (take (a + n) xs) ≡ gates_in (take a xs)
 skip_front xs a zero inside free = ap (λ k. gates_in (take k xs)) (let e : a + 0 ≡ a = omega arith in e)

@@ -48,6 +48,6 @@ rewritten_is row old closed filled moved places wires read kept end sound is rig
     ∙ ap (λ (gates : List Gate). (unchosen places 0 (take (last_place places + 1) old) ++ map (renamed wires) row.replacement) ++ gates) (ends ∙ ends_is)
     ∙ append_assoc (unchosen places 0 (take (last_place places + 1) old)) (map (renamed wires) row.replacement) (drop (last_place places + 1) old)
 
--- what is left of a list whose front was written and whose end cut off
+-- what is left of a list whose prefix was written and whose end cut off
 pub cut_front : {X : Type 0} (xs ys : List X) (n k : ℕ) → n ≤ k → n ≤ length xs → take n (take k (xs ++ ys)) ≡ take n xs
 cut_front xs ys n k few inside = take-take n k (xs ++ ys) few ∙ take-append-le n xs ys inside

@@ -83,7 +83,7 @@ before_at (suc n) (x ∷ xs) (y ∷ ys) xs_whole ys_whole (inr later) = later_be
         by zero below = same
         by (suc s) below = rest.same s (omega arith)
 
--- the same, where the second list is the front of one
+-- the same, where the second list is the prefix of one
 pub before_in_front : (n : ℕ) (xs ys : List ℕ) → IsBefore n xs (take n ys) → IsBefore n xs ys
 before_in_front n xs ys before = record {
   at = before.at;

@@ -76,7 +76,7 @@ pub written_taken : (slots : List Gate) (i : ℕ) (d : Gate) → i < length slot
 written_taken slots i d inside taken =
     written_more slots i d inside ∙ ap (λ (b : Bool). gates_in (take i slots) ++ cond b [] (get_or slots i d ∷ [])) taken
 
--- a front holds no more than the whole
+-- a prefix holds no more than the whole
 pub written_few : (slots : List Gate) (i : ℕ) → length (gates_in (take i slots)) ≤ length (gates_in slots)
 written_few slots i =
     let whole : gates_in slots ≡ gates_in (take i slots) ++ gates_in (drop i slots) =

@@ -49,7 +49,7 @@ joined_long rules w gates least works fit in' =
     let here : length (take least (joined gates works)) ≡ least = ap (λ (c : List Gate). length c) front ∙ long in
     omega (arith, here, length-take least (joined gates works))
 
--- a run of the front of a list
+-- a run of the prefix of a list
 pub run_front : (g h : List Gate) (from to : ℕ) → from ≤ to → take to g ≡ take to h → run g from to ≡ run h from to
 run_front g h from to up alike =
     let e : from + (to - from) ≡ to = omega arith in

@@ -27,7 +27,7 @@ begun_grown old new piece m column was s is behind =
       mode = is ∙ (behind ∙ (ap (λ k. mode_after k piece) was ∙ (sym (mode_after-append Code old.bytes.items piece) ∙ sym s.mode)));
     }
 
--- the front of a piece up to its last end
+-- the prefix of a piece up to its last end
 pub front_ended : (b : Begun) (piece front : List ℕ) (count : ℕ) → b.mode ≡ mode_after Code b.bytes.items → front ≡ take count piece → IsEnded b.mode (take count piece) → IsEnded Code (b.bytes.items ++ front)
 front_ended b piece front count was is ended =
     ended_after Code b.bytes.items front (subst (λ k. IsEnded k front) was (subst (IsEnded b.mode) (sym is) ended))

@@ -108,7 +108,7 @@ abbrev pub argument_tokens : Argument → ℕ
 argument_tokens a = if a.whole then 1 else 4
 
 -- The wires of a barrier: those so far and the ones of the arguments from here on, where some tokens at
--- the front still belong to what stands before.
+-- the start still belong to what stands before.
 unfoldable pub barrier_wires : List RegisterView → List ℕ → ℕ → List TokenView → Reading (List ℕ)
 barrier_wires regs wires within [] = Err (unexpected (head []))
 barrier_wires regs wires (suc within) (t ∷ ts) = barrier_wires regs wires within ts

@@ -9,7 +9,7 @@ pub record Cut : Type 0 where
   pub pieces : List (List TokenView)
   pub rest : List TokenView
 
--- Where a cut stands: at the front of a piece, or in one that ends with a mark.
+-- Where a cut stands: at the start of a piece, or in one that ends with a mark.
 pub data Within : Type 0 where
   Front : Within
   Until : (mark : Form) → Within

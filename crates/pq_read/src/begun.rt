@@ -34,7 +34,7 @@ pub struct Begun {
 }
 
 impl Begun {
-    /// Nothing at the front of a text.
+    /// Nothing at the start of a text.
     pub fn new(alloc: Global) -> Begun
         ensures place { position_of result ≡ record { rest = []; line = 1; column = 1 } }
         ensures begun { IsBegun 2 result }
@@ -49,7 +49,7 @@ impl Begun {
     }
 }
 
-// What is begun where this text stands at a place: all but what is skipped at its front.
+// What is begun where this text stands at a place: all but what is skipped at its start.
 fn begin(
     alloc: Global,
     text: &[u8],

@@ -58,7 +58,7 @@ impl Sight {
         }
     }
 
-    /// What has this number.
+    /// What has this number, which has to be below `SEEN`.
     pub fn numbered(number: u8) -> Sight
         requires { number < SEEN }
         ensures { result ≡ seen_at number }

@@ -102,7 +102,7 @@ log_rounds (ReadFault taken) status words input old new is logs (inr e) = absurd
 log_rounds OutOfMemory status words input old new is logs (inl e) = absurd (omega (arith, is, e))
 log_rounds OutOfMemory status words input old new is logs (inr e) = absurd (omega (arith, is, e))
 
--- and else the log stays, but for want of memory
+-- and else the log stays, unless memory runs out
 pub log_stays : (answer : Answer) (status : ℕ) (words : List (List ℕ)) (input : Moved) (old new : List Numbers) → status ≡ status_of answer → LogsBy words input old new answer →
     (status ≡ 0 → ⊥) → (status ≡ 5 → ⊥) → (status ≡ 6 → ⊥) → new ≡ old
 log_stays (Done true) status words input old new is logs not_0 not_5 not_6 = logs.1 refl

@@ -29,7 +29,7 @@ pub Rose-from : (was between now : ℕ) → was ≤ between → Rose between now
 Rose-from was between now le (inl lt) = inl (omega arith)
 Rose-from was between now le (inr e) = inr e
 
--- some pieces were put, and then a front of the next
+-- some pieces were put, and then a prefix of the next
 pub noted_stop : (before mid after : Option (List ℕ)) (was between now sent : ℕ) (front piece rest line : List ℕ) → line ≡ front ++ (piece ++ rest)
     → Appends before mid front → was ≤ between → WritesUpToFault mid after between now piece sent
     → Noted (record { before = before; after = after; was = was; now = now }) line

@@ -23,7 +23,7 @@ HasFaulted device = Rose device.was device.now
 abbrev pub NeverFails : {A : Type 0} → (A → ℕ) → Type 0
 NeverFails {A} faults = (old new : A) → ¬ Rose (faults old) (faults new)
 
--- The sink holds the whole line more where its count of faults didn't rise, and else a front of it.
+-- The sink holds the whole line more where its count of faults didn't rise, and else a prefix of it.
 pub record Noted (device : Moved) (line : List ℕ) : Type 0 where
   pub count : ℕ
   pub front : Appends device.before device.after (take count line)

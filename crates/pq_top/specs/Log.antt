@@ -55,7 +55,7 @@ pub record LogsFor (wanted : Settings) (input : Moved) (old new : List Numbers) 
   pub logs : Logs wanted text old new
   pub found : output.found ≡ true → new ≡ old
 
--- where there is no output the log stays, but for want of memory
+-- where there is no output the log stays, unless memory runs out
 abbrev pub LogsFailure : List Numbers → List Numbers → Answer → Type 0
 LogsFailure old new OutOfMemory = Follows old new
 LogsFailure old new _ = new ≡ old

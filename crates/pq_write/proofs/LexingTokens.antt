@@ -45,7 +45,7 @@ pub either : (test : Bool) (t u : List ℕ) (s v : List Shape) → (test ≡ tru
 either true t u s v first second = first refl
 either false t u s v first second = second
 
--- the token at the front of a text, by what stands there
+-- the token at the start of a text, by what stands there
 pub one_token : (form : Form) (text rest : List ℕ) (line column : ℕ) → blank_length (text ++ rest) ≡ 0 → front (text ++ rest) ≡ fronted form (length text) → is_last form ≡ false → LexedAt text (shape form text ∷ []) rest line column
 one_token form text rest line column none is goes =
     let all : List ℕ = text ++ rest in

@@ -1,4 +1,4 @@
--- What was sent so far is a front of the text, and the sink holds it more.
+-- What was sent so far is a prefix of the text, and the sink holds it more.
 use Rattle.std.proofs.Common.{◌-◌, ◌≤◌, length, take}
 use Rattle.std.specs.Io.KnownBytes.{Appends}
 use Rattle.pq_io.proofs.whole.write_whole.Given as goal
