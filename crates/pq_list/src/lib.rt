@@ -1,7 +1,7 @@
 //! A list with the room that was asked for: what the lists of the public surface are.
 #![tactic(auto)]
 
-ghost use Rattle.std.specs.Prelude.{◌≡◌, ◌<◌, ◌≤◌, [], ◌∷◌, ◌++◌, length, slice_set, IfOk, vec_len, vec_capacity};
+ghost use Rattle.std.specs.Prelude.{◌≡◌, ◌<◌, ◌≤◌, ◌-◌, [], ◌∷◌, ◌++◌, length, take, replicate, slice_set, IfOk, vec_len, vec_capacity};
 
 use std::alloc::{AllocError, Global};
 use std::marker::Model;
@@ -91,6 +91,19 @@ impl<T: Copy> RoomList<T> {
     }
 }
 
+/// Makes a list `count` items long: what is behind is cut off, or `filler` fills it up. It takes no memory.
+pub fn resize_reserved<T: Copy + Drop>(list: &mut Vec<T>, count: usize, filler: T)
+    requires { count ≤ vec_capacity list.old }
+    ensures items { list.new.items ≡ take count list.old.items ++ replicate (count - length list.old.items) filler }
+    ensures capacity { vec_capacity list.new ≡ vec_capacity list.old }
+{
+    list.truncate(count);
+    let missing = count - list.len();
+    for _filled in 0..missing {
+        list.push_reserved(filler);
+    }
+}
+
 /// A list of places.
 pub type PlaceList = RoomList<u64>;
 
@@ -115,6 +128,17 @@ mod tests {
         list.push_kept(7u64);
         list.push_kept(9);
         assert!(rt; list.as_slice() == [7u64, 9].as_slice());
+        Ok(())
+    }
+
+    #[test]
+    fn a_list_is_cut_off_and_filled_up(rt: HostRuntime) -> Result<(), AllocError> {
+        let mut list = Vec::with_capacity(rt.alloc(), 3)?;
+        resize_reserved(&mut list, 2, 5u64);
+        assert!(rt; list.as_slice() == [5u64, 5].as_slice());
+        resize_reserved(&mut list, 1, 6);
+        resize_reserved(&mut list, 3, 7);
+        assert!(rt; list.as_slice() == [5u64, 7, 7].as_slice());
         Ok(())
     }
 }
