@@ -1,16 +1,13 @@
 -- Slots where each gate has a free one behind it.
-use Rattle.std.proofs.Common.{◌≡◌, ◌≢◌, ℕ, ◌+◌, ◌*◌, ◌<◌, ◌≤◌, Bool, true, false, List, [], ◌∷◌, ◌++◌, zero, suc, length, refl, sym, ap, subst, ◌∙◌, arith, inl, inr, ◌⊎◌}
+use Rattle.std.proofs.Common.{◌≡◌, ◌≢◌, ℕ, ◌+◌, ◌*◌, ◌<◌, ◌≤◌, Bool, List, [], ◌∷◌, zero, suc, length, refl, sym, ap, subst, ◌∙◌, arith, inl, inr, ◌⊎◌}
 use Rattle.std.proofs.lemmas.Bool.{cases_lt}
 use Rattle.std.proofs.lemmas.Bool.Decides.{nat_tests}
-use Rattle.std.proofs.lemmas.List.{length-append}
-use Rattle.std.proofs.Math.ListN.{get_or-append}
-use Rattle.std.proofs.Math.Seq.{get_or-append_seam}
 use Rattle.pq_gate.specs.declared.gate.Gate.{Gate}
 use Rattle.pq_gate.specs.Commuting.{Touches}
 use Rattle.pq_links.specs.declared.links.Sides.{Sides}
 use Rattle.pq_links.specs.Wires.{wire_of}
 use Rattle.pq_links.specs.Places.{gate_at}
-use Rattle.pq_links.specs.Links.{side, side_at, far, IsNextOn, IsLastOn, LinksView, AreLinked}
+use Rattle.pq_links.specs.Links.{side_at, far, IsNextOn, IsLastOn, LinksView, AreLinked}
 use Rattle.pq_links.specs.Slots.{no_wire, free_slot, spread, AreNext, ArePrevious, AreChained}
 use Rattle.pq_links.specs.Leading.{doubled, AreSpread}
 use Rattle.pq_links.proofs.Changing.{free_uses, free_wire}
@@ -127,35 +124,6 @@ spread_previous_is gates sides previous few linked spread_sides q one below vali
         subst (λ (g : Gate). IsLastOn (spread gates) (wire_of one g) q (side_at one previous q)) (sym same)
         (subst (λ (r : ℕ). IsLastOn (spread gates) (wire_of one (gate_at gates p)) r (side_at one previous r)) (sym at)
         (at_slot p inside (subst (λ (g : Gate). wire_of one g ≢ no_wire) same valid)))
-
-pub spread_starts : (total : ℕ) (sides : List Sides) → AreSpread total 0 sides []
-spread_starts total sides = record { long = refl; each = λ p one below. absurd (omega arith) }
-
-pub spread_more : (total place : ℕ) (sides next : List Sides) (to apart : Sides) → AreSpread total place sides next → to.first ≡ doubled total (side_at false sides place) →
-    to.second ≡ doubled total (side_at true sides place) → AreSpread total (place + 1) sides ((next ++ to ∷ []) ++ apart ∷ [])
-spread_more total place sides next to apart old first second = (let l : length (next ++ to ∷ []) ≡ length next + 1 = length-append next (to ∷ []) in record {
-  long = length-append (next ++ to ∷ []) (apart ∷ []) ∙ (let o : length next ≡ 2 * place = old.long in let e : length (next ++ to ∷ []) + 1 ≡ 2 * (place + 1) = omega arith in e);
-  each = λ p one below. each p one below (cases_lt p place);
-})
-  where
-    own : (one : Bool) → side one to ≡ doubled total (side_at one sides place)
-    own true = second
-    own false = first
-
-    each : (p : ℕ) (one : Bool) → p < place + 1 → (p < place) ⊎ (place ≤ p) → side_at one ((next ++ to ∷ []) ++ apart ∷ []) (2 * p) ≡ doubled total (side_at one sides p)
-    each p one below (inl less) =
-        ap (λ (s : Sides). side one s)
-        (get_or-append (next ++ to ∷ []) (apart ∷ []) (record { first = 0; second = 0 }) (2 * p) (let l : length (next ++ to ∷ []) ≡ length next + 1 = length-append next (to ∷ []) in let o : length next ≡ 2 * place = old.long in omega arith)
-        ∙ get_or-append next (to ∷ []) (record { first = 0; second = 0 }) (2 * p) (let o : length next ≡ 2 * place = old.long in omega arith))
-        ∙ old.each p one less
-    each p one below (inr from) =
-        let here : p ≡ place = omega arith in
-        let at : 2 * p ≡ length next = (let o : length next ≡ 2 * place = old.long in omega arith) in
-        ap (λ (q : ℕ). side_at one ((next ++ to ∷ []) ++ apart ∷ []) q) at
-        ∙ (ap (λ (s : Sides). side one s)
-        (get_or-append (next ++ to ∷ []) (apart ∷ []) (record { first = 0; second = 0 }) (length next) (let l : length (next ++ to ∷ []) ≡ length next + 1 = length-append next (to ∷ []) in omega arith)
-        ∙ get_or-append_seam next to [] (record { first = 0; second = 0 }))
-        ∙ (own one ∙ ap (λ (q : ℕ). doubled total (side_at one sides q)) (sym here)))
 
 -- the chains of slots where each gate has a free one behind it
 pub spread_chained : (gates slots : List Gate) (links : LinksView) (next previous : List Sides) → slots ≡ spread gates → 2 * length gates < far → AreLinked gates links →

@@ -1,5 +1,5 @@
 -- What private functions say of lists of sides.
-use Rattle.std.specs.Prelude.{◌≡◌, ℕ, ◌*◌, ◌<◌, ◌⊎◌, ◌==◌, Bool, cond, nat_lt, List, length}
+use Rattle.std.specs.Prelude.{◌≡◌, ℕ, ◌*◌, ◌<◌, ◌≤◌, ◌⊎◌, ◌==◌, Bool, cond, nat_lt, List, length}
 use Rattle.pq_gate.specs.declared.gate.Gate.{Gate}
 use Rattle.pq_links.specs.declared.links.Sides.{Sides}
 use Rattle.pq_links.specs.declared.links.Head.{Head}
@@ -29,8 +29,12 @@ pub record AreLed (slots : List Gate) (gate : Gate) (at to : Sides) (old new : L
 abbrev pub doubled : ℕ → ℕ → ℕ
 doubled count place = cond (nat_lt place count) (2 * place) far
 
--- Sides of slots, where each of so many gates has a free slot behind it: a gate's sides lead to the slots of the places
--- to which they led before. The list has `total` gates.
+-- each side is a place of the list, or none
+abbrev pub AreInside : List Sides → Type 0
+AreInside sides = (p : ℕ) (one : Bool) → p < length sides → length sides ≤ side_at one sides p → side_at one sides p ≡ far
+
+-- Sides of slots, where each of `total` gates has a free slot behind it: the sides of the first `count` gates lead to the slots
+-- of the places to which they led before.
 pub record AreSpread (total count : ℕ) (sides spread : List Sides) : Type 0 where
-  pub long : length spread ≡ 2 * count
+  pub long : length spread ≡ 2 * total
   pub each : (p : ℕ) (one : Bool) → p < count → side_at one spread (2 * p) ≡ doubled total (side_at one sides p)

@@ -1,15 +1,15 @@
 //! The neighbours on wires of gates that stand in slots. A gate comes or goes without moving any other.
-ghost use Rattle.std.specs.Prelude.{◌≡◌, ◌≢◌, ℕ, ◌+◌, ◌*◌, ◌<◌, ◌≤◌, true, false, [], length, slice_set, vec_len, vec_capacity, IfOk};
+ghost use Rattle.std.specs.Prelude.{◌≡◌, ◌≢◌, ℕ, ◌+◌, ◌*◌, ◌<◌, ◌≤◌, true, false, min, [], length, slice_set, vec_len, vec_capacity, IfOk};
 ghost use Rattle.pq_gate.specs.Commuting.{Touches};
 ghost use Rattle.pq_links.specs.Wires.{wire_of};
 ghost use Rattle.pq_links.specs.Places.{gate_at};
 ghost use Rattle.pq_links.specs.Links.{AreLinked, IsLastOn};
 ghost use Rattle.pq_links.specs.Slots.{free_slot, spread, AreSlots, ArePrevious, AreChained, IsGap};
-ghost use Rattle.pq_links.specs.Leading.{doubled, AreSpread};
+ghost use Rattle.pq_links.specs.Leading.{AreInside, AreSpread};
 
 use crate::links::{FAR, Links, NO_PLACES, NO_WIRE, Sides, lead_both, next_on, side_on};
 use pq_gate::Gate;
-use pq_list::OutOfMemory;
+use pq_list::{OutOfMemory, resize_reserved};
 use std::alloc::Global;
 use std::marker::Model;
 
@@ -66,8 +66,6 @@ impl Chains {
         ensures chained { AreChained slots.now self.new.next self.new.previous }
         ensures room { self.new.room ≡ self.old.room }
     {
-        self.next.clear();
-        self.previous.clear();
         spread_sides(links.nexts(), &mut self.next);
         spread_sides(links.previouses(), &mut self.previous);
     }
@@ -167,33 +165,38 @@ impl Chains {
 // the neighbours of gates that have a free slot behind each
 fn spread_sides(sides: &[Sides], spread: &mut Vec<Sides>)
     requires few { 2 * length sides.now < FAR }
-    requires empty { spread.old.items ≡ [] }
+    requires inside { AreInside sides.now }
     requires room { 2 * length sides.now ≤ vec_capacity spread.old }
     ensures spread { AreSpread (length sides.now) (length sides.now) sides.now spread.new.items }
     ensures len { vec_len spread.new ≡ 2 * length sides.now }
     ensures capacity { vec_capacity spread.new ≡ vec_capacity spread.old }
 {
-    let count = sides.len();
-    for place in 0..count {
+    resize_reserved(spread, 2 * sides.len(), NO_PLACES);
+    write_sides(sides, spread.as_mut_slice());
+}
+
+// the same in a list that is long enough, so that nothing branches
+fn write_sides(sides: &[Sides], spread: &mut [Sides])
+    requires few { 2 * length sides.now < FAR }
+    requires inside { AreInside sides.now }
+    requires long { length spread.old ≡ 2 * length sides.now }
+    ensures { AreSpread (length sides.now) (length sides.now) sides.now spread.new }
+{
+    for place in 0..sides.len() {
         let to = sides[place];
-        spread.push_reserved(Sides {
-            first: double(count, to.first),
-            second: double(count, to.second),
-        });
-        spread.push_reserved(NO_PLACES);
+        spread[2 * place] = Sides {
+            first: double(to.first),
+            second: double(to.second),
+        };
+        spread[2 * place + 1] = NO_PLACES;
     }
 }
 
-// the slot of a place
-fn double(count: usize, place: u16) -> u16
-    requires { 2 * count < FAR }
-    ensures { result ≡ doubled count place }
+// the slot of a place, or FAR where it is none
+fn double(place: u16) -> u16
+    ensures { result ≡ min (2 * place) FAR }
 {
-    if (place as usize) < count {
-        2 * place
-    } else {
-        FAR as u16
-    }
+    place.saturating_add(place)
 }
 
 // frees the slot, and links what stands before and behind it on the wires of its gate

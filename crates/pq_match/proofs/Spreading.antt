@@ -1,9 +1,10 @@
 -- Gates spread over slots, and written back.
-use Rattle.std.proofs.Common.{◌≡◌, ℕ, zero, suc, ◌+◌, ◌*◌, ◌<◌, ◌≤◌, Bool, true, false, cond, List, [], ◌∷◌, ◌++◌, length, get_or, take, drop, refl, ap, sym, subst, ◌∙◌, arith, inl, inr, ◌⊎◌}
+use Rattle.std.proofs.Common.{◌≡◌, ℕ, zero, suc, ◌+◌, ◌*◌, ◌<◌, ◌≤◌, Bool, true, false, cond, List, [], ◌∷◌, ◌++◌, length, get_or, set, take, drop, refl, ap, sym, subst, ◌∙◌, arith, inl, inr, ◌⊎◌}
 use Rattle.std.proofs.lemmas.Bool.{cases_lt, ne_eqb}
 use Rattle.std.proofs.Math.ListN.{get_or-append}
 use Rattle.std.proofs.Math.Seq.{get_or-append_seam}
-use Rattle.std.proofs.lemmas.List.{take_more, append-nil, length-append, take-append-drop}
+use Rattle.std.proofs.lemmas.Grind.{take-set_at}
+use Rattle.std.proofs.lemmas.List.{take_more, append-nil, length-append, length-set, take-append-drop}
 use Rattle.pq_gate.specs.declared.gate.Gate.{Gate}
 use Rattle.pq_gate.specs.declared.gate.Gate.TheVariants.{H}
 use Rattle.pq_gate.specs.Commuting.{Touches}
@@ -56,13 +57,23 @@ spread-append [] ys = refl
 spread-append (gate ∷ xs) ys = ap (λ (rest : List Gate). gate ∷ free_slot ∷ rest) (spread-append xs ys)
 
 -- one gate more
-pub spread_more : (gates : List Gate) (i : ℕ) (d : Gate) → i < length gates → spread (take (i + 1) gates) ≡ (spread (take i gates) ++ get_or gates i d ∷ []) ++ free_slot ∷ []
+spread_more : (gates : List Gate) (i : ℕ) (d : Gate) → i < length gates → spread (take (i + 1) gates) ≡ (spread (take i gates) ++ get_or gates i d ∷ []) ++ free_slot ∷ []
 spread_more gates i d inside =
     ap spread (take_more gates i d inside) ∙ spread-append (take i gates) (get_or gates i d ∷ []) ∙ split (spread (take i gates)) (get_or gates i d)
   where
     split : (xs : List Gate) (gate : Gate) → xs ++ gate ∷ free_slot ∷ [] ≡ (xs ++ gate ∷ []) ++ free_slot ∷ []
     split [] gate = refl
     split (x ∷ xs) gate = ap (λ (rest : List Gate). x ∷ rest) (split xs gate)
+
+-- and its two slots are written
+pub spread_written : (slots gates : List Gate) (i : ℕ) (free d : Gate) → i < length gates → length slots ≡ 2 * length gates → take (2 * i) slots ≡ spread (take i gates) →
+    free ≡ free_slot → take (2 * (i + 1)) (set (set slots (2 * i) (get_or gates i d)) (2 * i + 1) free) ≡ spread (take (i + 1) gates)
+spread_written slots gates i free d inside long old is_free =
+    take-set_at (set slots (2 * i) (get_or gates i d)) (2 * i + 1) (2 * (i + 1)) free (omega arith) (omega (arith, length-set slots (2 * i) (get_or gates i d)))
+    ∙ ap (λ (xs : List Gate). xs ++ free ∷ []) (take-set_at slots (2 * i) (2 * i + 1) (get_or gates i d) refl (omega arith))
+    ∙ ap (λ (xs : List Gate). (xs ++ get_or gates i d ∷ []) ++ free ∷ []) old
+    ∙ ap (λ (slot : Gate). (spread (take i gates) ++ get_or gates i d ∷ []) ++ slot ∷ []) is_free
+    ∙ sym (spread_more gates i d inside)
 
 -- one slot more is written
 pub written_more : (slots : List Gate) (i : ℕ) (d : Gate) → i < length slots → gates_in (take (i + 1) slots) ≡ gates_in (take i slots) ++ cond (is_free (get_or slots i d)) [] (get_or slots i d ∷ [])

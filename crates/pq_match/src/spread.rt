@@ -6,18 +6,26 @@ ghost use Rattle.pq_links.specs.Slots.{spread, gates_in};
 use crate::runs::is_free;
 use pq_gate::Gate;
 use pq_links::NO_WIRE;
+use pq_list::resize_reserved;
 
 /// Each gate in a slot of its own, with a free one behind it.
-#[tactic(auto, using(crate::proofs::Spreading::spread_more))]
 pub fn spread_over(slots: &mut Vec<Gate>, gates: &[Gate])
     requires { 2 * length gates.now ≤ vec_capacity slots.old }
     ensures slots { slots.new.items ≡ spread gates.now }
     ensures capacity { vec_capacity slots.new ≡ vec_capacity slots.old }
 {
-    slots.clear();
-    for gate in gates {
-        slots.push_reserved(*gate);
-        slots.push_reserved(Gate::cx(NO_WIRE, NO_WIRE));
+    resize_reserved(slots, 2 * gates.len(), Gate::cx(NO_WIRE, NO_WIRE));
+    write_spread(slots.as_mut_slice(), gates);
+}
+
+// the same in a list that is long enough, so that nothing branches
+fn write_spread(slots: &mut [Gate], gates: &[Gate])
+    requires { length slots.old ≡ 2 * length gates.now }
+    ensures { slots.new ≡ spread gates.now }
+{
+    for place in 0..gates.len() {
+        slots[2 * place] = gates[place];
+        slots[2 * place + 1] = Gate::cx(NO_WIRE, NO_WIRE);
     }
 }
 
