@@ -8,7 +8,8 @@ use Rattle.pq_gate.specs.Commuting.{Touches}
 use Rattle.pq_links.specs.Wires.{wire_of}
 use Rattle.pq_links.specs.Places.{gate_at}
 use Rattle.pq_links.specs.declared.links.Head.{Head}
-use Rattle.pq_links.specs.Links.{bucket_of, is_on, far, IsHead, IsEndOn, IsLastIn, IsLastOn}
+use Rattle.pq_links.specs.declared.links.Spot.{Spot}
+use Rattle.pq_links.specs.Links.{bucket_of, is_on, head_at, far, IsHead, IsSpot, IsEndOn, IsLastIn, IsLastOn, LinksView, AreLinked}
 use Rattle.pq_links.specs.Leading.{IsHeadOf}
 use Rattle.pq_links.proofs.Touching.{touched, touching}
 
@@ -98,18 +99,20 @@ back_found buckets bucket gates wire place first second head back inside first_i
     past = back.past;
   });
   sides = λ one _. subst (λ (p : ℕ). is_on one head ≡ (wire_of one (gate_at gates p) == wire)) (sym of_gate.at) (of_gate.sides one);
+  none = λ past one. absurd (let e : head.place ≡ place = of_gate.at in omega arith);
 }
 
 -- no place is left
 pub back_ends : (buckets bucket : ℕ) (gates : List Gate) (wire place : ℕ) (head : Head) → IsBack buckets bucket gates wire place → length gates < far →
-    length gates ≤ place → head.place ≡ far → IsEndOn gates wire head
-back_ends buckets bucket gates wire place head back few past at = record {
+    length gates ≤ place → head.place ≡ far → ((one : Bool) → is_on one head ≡ false) → IsEndOn gates wire head
+back_ends buckets bucket gates wire place head back few past at neither = record {
   last = record {
     uses = λ below. absurd (omega (arith, at));
     none = λ p below _. back.none p below (λ low. absurd (omega arith));
     past = λ _. at;
   };
   sides = λ one below. absurd (omega (arith, at));
+  none = λ _ one. neither one;
 }
 
 -- a bucket's head that is on the wire, or of an empty bucket
@@ -122,6 +125,7 @@ head_known buckets gates wire head is either = record {
     past = is.last.past;
   };
   sides = λ one below. sides one below either;
+  none = is.none;
 }
   where
     uses : head.place < length gates → (head.wire ≡ wire) ⊎ (length gates ≤ head.place) → Touches (gate_at gates head.place) wire
@@ -131,6 +135,22 @@ head_known buckets gates wire head is either = record {
     sides : (one : Bool) → head.place < length gates → (head.wire ≡ wire) ⊎ (length gates ≤ head.place) → is_on one head ≡ (wire_of one (gate_at gates head.place) == wire)
     sides one below (inl same) = is.sides one below ∙ ap (λ (w : ℕ). wire_of one (gate_at gates head.place) == w) same
     sides one below (inr past) = absurd (omega arith)
+
+-- the head of a wire's bucket
+pub spot_head : {gates : List Gate} {links : LinksView} {spot : Spot} → AreLinked gates links → IsSpot links.heads spot →
+    IsHead (length links.heads) (bucket_of (length links.heads) spot.wire) gates spot.head
+spot_head {gates} {links} {spot} linked is =
+    subst (λ (h : Head). IsHead (length links.heads) (bucket_of (length links.heads) spot.wire) gates h) (sym (is.head ∙ ap (λ (k : ℕ). head_at links.heads k) is.bucket))
+    (linked.heads (bucket_of (length links.heads) spot.wire) (bucket_below (length links.heads) spot.wire linked.some))
+
+-- a head that is on the wire, or of an empty bucket
+pub spot_known : (gates : List Gate) (links : LinksView) (spot : Spot) → AreLinked gates links → length gates < far → IsSpot links.heads spot →
+    (spot.head.wire ≡ spot.wire) ⊎ (spot.head.place ≡ far) → IsEndOn gates spot.wire spot.head
+spot_known gates links spot linked few is either = head_known (length links.heads) gates spot.wire spot.head (spot_head linked is) (by either)
+  where
+    by : (spot.head.wire ≡ spot.wire) ⊎ (spot.head.place ≡ far) → (spot.head.wire ≡ spot.wire) ⊎ (length gates ≤ spot.head.place)
+    by (inl same) = inl same
+    by (inr past) = inr (omega arith)
 
 -- numbers without a different bit are one
 xor_same : (a b : ℕ) → bit_xor a b ≡ 0 → a ≡ b

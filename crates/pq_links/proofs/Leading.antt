@@ -76,9 +76,9 @@ led_once slots gate at to old new first last first_is last_is same_wire same_at 
         ∙ (one.led side (subst (λ (q : ℕ). q < length slots) (sym same_at) below) (ap (λ (q : ℕ). wire_of side (gate_at slots q)) same_at ∙ (on ∙ sym same_wire)) ∙ same_to)
 
 -- the end of a wire is led on, by what it says of its sides
-pub led_end : (gates : List Gate) (old new : List Sides) (end : Head) (wire place : ℕ) → length old ≡ length gates → IsEndOn gates wire end →
-    ((one : Bool) → end.place < length old → is_on one end ≡ true → side_at one new end.place ≡ place) →
-    ((p : ℕ) (one : Bool) → (p ≡ end.place → p < length old → is_on one end ≡ true → ⊥) → side_at one new p ≡ side_at one old p) → IsLed gates old new end.place wire place
+pub led_end : (gates : List Gate) (old new : List Sides) (end : Head) (wire place : ℕ) → place ≡ length gates → IsEndOn gates wire end →
+    ((one : Bool) → end.place < place → is_on one end ≡ true → side_at one new end.place ≡ place) →
+    ((p : ℕ) (one : Bool) → (p ≡ end.place → p < place → is_on one end ≡ true → ⊥) → side_at one new p ≡ side_at one old p) → IsLed gates old new end.place wire place
 led_end gates old new end wire place long is led others = record {
   led = λ one below on. led one (omega arith) (is.sides one below ∙ eq-eqb (wire_of one (gate_at gates end.place)) wire on);
   others = λ p one other. others p one (λ here below set.
@@ -88,15 +88,15 @@ led_end gates old new end wire place long is led others = record {
 
 -- the ends of both wires of a gate are led on to one place
 pub led_ends : (gates : List Gate) (gate : Gate) (first last : Head) (place : ℕ) (old mid new : List Sides) (one other : ℕ) → one ≡ wire_of false gate → other ≡ wire_of true gate →
-    IsEndOn gates one first → IsEndOn gates other last → length old ≡ length gates → length mid ≡ length old → length new ≡ length mid →
-    ((side : Bool) → first.place < length old → is_on side first ≡ true → side_at side mid first.place ≡ place) →
-    ((p : ℕ) (side : Bool) → (p ≡ first.place → p < length old → is_on side first ≡ true → ⊥) → side_at side mid p ≡ side_at side old p) →
-    ((side : Bool) → last.place < length mid → is_on side last ≡ true → side_at side new last.place ≡ place) →
-    ((p : ℕ) (side : Bool) → (p ≡ last.place → p < length mid → is_on side last ≡ true → ⊥) → side_at side new p ≡ side_at side mid p) →
+    IsEndOn gates one first → IsEndOn gates other last → place ≡ length gates → length mid ≡ length old → length new ≡ length mid →
+    ((side : Bool) → first.place < place → is_on side first ≡ true → side_at side mid first.place ≡ place) →
+    ((p : ℕ) (side : Bool) → (p ≡ first.place → p < place → is_on side first ≡ true → ⊥) → side_at side mid p ≡ side_at side old p) →
+    ((side : Bool) → last.place < place → is_on side last ≡ true → side_at side new last.place ≡ place) →
+    ((p : ℕ) (side : Bool) → (p ≡ last.place → p < place → is_on side last ≡ true → ⊥) → side_at side new p ≡ side_at side mid p) →
     AreLed gates gate (record { first = first.place; second = last.place }) (record { first = place; second = place }) old new
 led_ends gates gate first last place old mid new one other one_is other_is first_end last_end long mid_long new_long led_first others_first led_last others_last =
     led_twice gates gate (record { first = first.place; second = last.place }) (record { first = place; second = place }) old mid new one other one_is other_is
-    (led_end gates old mid first one place long first_end led_first others_first) (led_end gates mid new last other place (mid_long ∙ long) last_end led_last others_last) (new_long ∙ mid_long)
+    (led_end gates old mid first one place long first_end led_first others_first) (led_end gates mid new last other place long last_end led_last others_last) (new_long ∙ mid_long)
 
 -- a head of a gate, by which of the gate's wires it is on
 pub head_by : (gate : Gate) (place wire : ℕ) (first last : Bool) → (wire_of false gate == wire) ≡ first → (wire_of true gate == wire) ≡ last →

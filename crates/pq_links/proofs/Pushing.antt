@@ -12,7 +12,8 @@ use Rattle.pq_links.specs.declared.links.Sides.{Sides}
 use Rattle.pq_links.specs.Wires.{wire_of}
 use Rattle.pq_links.specs.Places.{gate_at}
 use Rattle.pq_links.specs.declared.links.Head.{Head}
-use Rattle.pq_links.specs.Links.{bucket_of, side, side_at, head_at, far, IsHead, IsNextOn, IsLastIn, IsLastOn, LinksView, AreLinked}
+use Rattle.pq_links.specs.declared.links.Spot.{Spot}
+use Rattle.pq_links.specs.Links.{bucket_of, side, side_at, head_at, far, IsHead, IsSpot, IsNextOn, IsLastIn, IsLastOn, LinksView, AreLinked}
 use Rattle.pq_links.proofs.Buckets.{bucket_below}
 use Rattle.pq_links.specs.Leading.{IsHeadOf, IsLedAt, AreLed}
 use Rattle.pq_links.proofs.Touching.{touching, on_which}
@@ -119,6 +120,7 @@ module _ (gates : List Gate) (gate : Gate) where
     uses = λ _. subst (λ (g : Gate). Touches g head.wire) (sym there) (subst (Touches gate) (sym of_gate.on) (touching gate one));
     sides = λ side _. of_gate.sides side
         ∙ (ap (λ (w : ℕ). wire_of side gate == w) (sym of_gate.on) ∙ ap (λ (g : Gate). wire_of side g == head.wire) (sym there));
+    none = λ past side. absurd (let l : length (gates ++ gate ∷ []) ≡ length gates + 1 = long in let e : head.place ≡ length gates = of_gate.at in omega arith);
   }
     where
       there : gate_at (gates ++ gate ∷ []) head.place ≡ gate
@@ -131,6 +133,7 @@ module _ (gates : List Gate) (gate : Gate) where
     last = head_old buckets bucket head.place few is.last other;
     uses = λ below. subst (λ (g : Gate). Touches g head.wire) (sym (old_at head.place (inside below))) (is.uses (inside below));
     sides = λ side below. is.sides side (inside below) ∙ ap (λ (g : Gate). wire_of side g == head.wire) (sym (old_at head.place (inside below)));
+    none = λ past. is.none (let l : length (gates ++ gate ∷ []) ≡ length gates + 1 = long in omega arith);
   }
     where
       inside : head.place < length (gates ++ gate ∷ []) → head.place < length gates
@@ -150,9 +153,14 @@ module _ (gates : List Gate) (gate : Gate) where
 
   module _ (links : LinksView) (linked : AreLinked gates links) (few : length gates < far) (last : Sides) (led : List Sides)
       (is_last : (b : Bool) → IsLastOn gates (wire_of b gate) (length gates) (side b last))
-      (are_led : AreLed gates gate last (record { first = length gates; second = length gates }) links.next led) where
-    nexts : length led ≡ length gates
-    nexts = are_led.long ∙ linked.nexts
+      (are_led : AreLed gates gate last (record { first = length gates; second = length gates }) (links.next ++ (record { first = far; second = far }) ∷ []) led)
+      (is_far : (one : Bool) → side_at one led (length gates) ≡ far) where
+    nexts : length led ≡ length gates + 1
+    nexts = are_led.long ∙ (length-append links.next ((record { first = far; second = far }) ∷ []) ∙ ap (λ (n : ℕ). n + 1) linked.nexts)
+
+    -- an old gate's sides stand where they stood
+    kept_at : (p : ℕ) (one : Bool) → p < length gates → side_at one (links.next ++ (record { first = far; second = far }) ∷ []) p ≡ side_at one links.next p
+    kept_at p one below = ap (side one) (get_or-append links.next ((record { first = far; second = far }) ∷ []) (record { first = 0; second = 0 }) p (let l : length links.next ≡ length gates = linked.nexts in omega arith))
 
     -- the next place on a wire of an old gate
     next_of : (p : ℕ) (one : Bool) → p < length gates → IsNextOn (gates ++ gate ∷ []) (wire_of one (gate_at gates p)) (p + 1) (side_at one led p)
@@ -184,10 +192,10 @@ module _ (gates : List Gate) (gate : Gate) where
         here false = refl
 
         by : ((b : Bool) × IsLedAt gates gate last one p b × (side_at one led p ≡ side b (record { first = length gates; second = length gates })))
-            ⊎ (((b : Bool) → ¬ IsLedAt gates gate last one p b) × (side_at one led p ≡ side_at one links.next p)) →
+            ⊎ (((b : Bool) → ¬ IsLedAt gates gate last one p b) × (side_at one led p ≡ side_at one (links.next ++ (record { first = far; second = far }) ∷ []) p)) →
             IsNextOn (gates ++ gate ∷ []) (wire_of one (gate_at gates p)) (p + 1) (side_at one led p)
         by (inl (b, is_led, noted)) = at (noted ∙ here b) (to_new (side b last) b is_led.on is_led.here (is_last b))
-        by (inr (none, kept)) = at kept (still (on_which gate (wire_of one (gate_at gates p))))
+        by (inr (none, kept)) = at (kept ∙ kept_at p one below) (still (on_which gate (wire_of one (gate_at gates p))))
           where
             still : ((b : Bool) × (wire_of one (gate_at gates p) ≡ wire_of b gate)) ⊎ (¬ Touches gate (wire_of one (gate_at gates p))) →
                 IsNextOn (gates ++ gate ∷ []) (wire_of one (gate_at gates p)) (p + 1) (side_at one links.next p)
@@ -219,28 +227,16 @@ module _ (gates : List Gate) (gate : Gate) where
         (other_before : before.second ≡ (head_at links.heads (bucket_of buckets (wire_of true gate))).place)
         (one_head other_head : Head) (is_one : IsHeadOf gate (length gates) (wire_of false gate) one_head) (is_other : IsHeadOf gate (length gates) (wire_of true gate) other_head) where
       nexts_more : (p : ℕ) (one : Bool) → p < length (gates ++ gate ∷ []) → (p ≡ length gates) ⊎ ((p < length gates) ⊎ (length gates < p)) →
-          IsNextOn (gates ++ gate ∷ []) (wire_of one (gate_at (gates ++ gate ∷ []) p)) (p + 1) (side_at one (led ++ (record { first = far; second = far }) ∷ []) p)
+          IsNextOn (gates ++ gate ∷ []) (wire_of one (gate_at (gates ++ gate ∷ []) p)) (p + 1) (side_at one led p)
       nexts_more p one below (inl same) =
-          subst (λ (c : ℕ). IsNextOn (gates ++ gate ∷ []) (wire_of one (gate_at (gates ++ gate ∷ []) p)) (p + 1) c) (sym (is_far one)) (record {
+          subst (λ (c : ℕ). IsNextOn (gates ++ gate ∷ []) (wire_of one (gate_at (gates ++ gate ∷ []) p)) (p + 1) c) (sym (ap (λ (q : ℕ). side_at one led q) same ∙ is_far one)) (record {
             ahead = omega arith;
             uses = λ less. absurd (let l : length (gates ++ gate ∷ []) ≡ length gates + 1 = long in omega arith);
             none = λ q from upto inside. absurd (let l : length (gates ++ gate ∷ []) ≡ length gates + 1 = long in omega arith);
             past = λ above. refl;
           })
-        where
-          there : get_or (led ++ (record { first = far; second = far }) ∷ []) p (record { first = 0; second = 0 }) ≡ record { first = far; second = far }
-          there = ap (λ (k : ℕ). get_or (led ++ (record { first = far; second = far }) ∷ []) k (record { first = 0; second = 0 })) (same ∙ sym nexts) ∙ get_or-append_seam led (record { first = far; second = far }) [] (record { first = 0; second = 0 })
-
-          is_far : (one : Bool) → side_at one (led ++ (record { first = far; second = far }) ∷ []) p ≡ far
-          is_far one = ap (side one) there ∙ both one
-            where
-              both : (one : Bool) → side one (record { first = far; second = far }) ≡ far
-              both true = refl
-              both false = refl
       nexts_more p one below (inr (inl less)) =
-          subst (λ (g : Gate). IsNextOn (gates ++ gate ∷ []) (wire_of one g) (p + 1) (side_at one (led ++ (record { first = far; second = far }) ∷ []) p)) (sym (old_at p less))
-          (subst (λ (s : Sides). IsNextOn (gates ++ gate ∷ []) (wire_of one (gate_at gates p)) (p + 1) (side one s)) (sym (get_or-append led ((record { first = far; second = far }) ∷ []) (record { first = 0; second = 0 }) p (let l : length led ≡ length gates = nexts in omega arith)))
-          (next_of p one less))
+          subst (λ (g : Gate). IsNextOn (gates ++ gate ∷ []) (wire_of one g) (p + 1) (side_at one led p)) (sym (old_at p less)) (next_of p one less)
       nexts_more p one below (inr (inr above)) = absurd (let l : length (gates ++ gate ∷ []) ≡ length gates + 1 = long in omega arith)
 
       befores_more : (p : ℕ) (one : Bool) → p < length (gates ++ gate ∷ []) → (p ≡ length gates) ⊎ ((p < length gates) ⊎ (length gates < p)) →
@@ -314,14 +310,14 @@ module _ (gates : List Gate) (gate : Gate) where
           neither false same = apart not_first (sym same ∙ ap (λ (b : ℕ). bucket_of b (wire_of false gate)) (sym are))
 
       pub linked_more : (room : ℕ) → AreLinked (gates ++ gate ∷ []) (record {
-        next = led ++ (record { first = far; second = far }) ∷ [];
+        next = led;
         previous = links.previous ++ last ∷ [];
         before = links.before ++ before ∷ [];
         heads = both_set;
         room = room;
       })
       linked_more room = record {
-        nexts = length-append led ((record { first = far; second = far }) ∷ []) ∙ (let l : length led ≡ length gates = nexts in let m : length (gates ++ gate ∷ []) ≡ length gates + 1 = long in let e : length led + 1 ≡ length (gates ++ gate ∷ []) = omega arith in e);
+        nexts = nexts ∙ sym long;
         previouses = length-append links.previous (last ∷ []) ∙ (let l : length links.previous ≡ length gates = linked.previouses in let m : length (gates ++ gate ∷ []) ≡ length gates + 1 = long in let e : length links.previous + 1 ≡ length (gates ++ gate ∷ []) = omega arith in e);
         befores = length-append links.before (before ∷ []) ∙ (let l : length links.before ≡ length gates = linked.befores in let m : length (gates ++ gate ∷ []) ≡ length gates + 1 = long in let e : length links.before + 1 ≡ length (gates ++ gate ∷ []) = omega arith in e);
         some = (let s : 0 < length links.heads = linked.some in let l = heads_long in omega (arith, heads_long));
@@ -336,33 +332,51 @@ module _ (gates : List Gate) (gate : Gate) where
       }
 
 -- The same, where the new links are equal to these.
-pub pushed : (gates : List Gate) (gate : Gate) (old new : LinksView) (first second buckets : ℕ) (last : Sides) (led : List Sides) (before : Sides) (one other : Head) →
-    AreLinked gates old → length gates < far → first ≡ wire_of false gate → second ≡ wire_of true gate →
-    IsLastOn gates first (length gates) last.first → IsLastOn gates second (length gates) last.second →
-    AreLed gates gate last (record { first = length gates; second = length gates }) old.next led →
-    buckets ≡ length old.heads → before.first ≡ (head_at old.heads (bucket_of buckets first)).place → before.second ≡ (head_at old.heads (bucket_of buckets second)).place →
-    IsHeadOf gate (length gates) first one → IsHeadOf gate (length gates) second other →
-    new.next ≡ led ++ (record { first = far; second = far }) ∷ [] → new.previous ≡ old.previous ++ last ∷ [] → new.before ≡ old.before ++ before ∷ [] →
-    new.heads ≡ set (set old.heads (bucket_of buckets first) one) (bucket_of buckets second) other →
+pub pushed : (gates : List Gate) (gate : Gate) (old new : LinksView) (first last : Spot) (ends : Sides) (led : List Sides) (one other : Head) →
+    AreLinked gates old → length gates < far → first.wire ≡ wire_of false gate → last.wire ≡ wire_of true gate →
+    IsSpot old.heads first → IsSpot old.heads last →
+    IsLastOn gates first.wire (length gates) ends.first → IsLastOn gates last.wire (length gates) ends.second →
+    AreLed gates gate ends (record { first = length gates; second = length gates }) (old.next ++ (record { first = far; second = far }) ∷ []) led →
+    ((side : Bool) → side_at side led (length gates) ≡ far) →
+    IsHeadOf gate (length gates) first.wire one → IsHeadOf gate (length gates) last.wire other →
+    new.next ≡ led → new.previous ≡ old.previous ++ ends ∷ [] → new.before ≡ old.before ++ (record { first = first.head.place; second = last.head.place }) ∷ [] →
+    new.heads ≡ set (set old.heads first.bucket one) last.bucket other →
     AreLinked (gates ++ gate ∷ []) new
-pushed gates gate old new first second buckets last led before one other linked few first_is second_is is_first is_second are_led are one_before other_before is_one is_other nexts previouses befores heads =
+pushed gates gate old new first last ends led one other linked few first_is last_is first_spot last_spot is_first is_last are_led is_far is_one is_other nexts previouses befores heads =
     subst (λ (n : List Sides). AreLinked (gates ++ gate ∷ []) (record { next = n; previous = new.previous; before = new.before; heads = new.heads; room = new.room })) (sym nexts)
-    (subst (λ (l : List Sides). AreLinked (gates ++ gate ∷ []) (record { next = led ++ (record { first = far; second = far }) ∷ []; previous = l; before = new.before; heads = new.heads; room = new.room })) (sym previouses)
-    (subst (λ (b : List Sides). AreLinked (gates ++ gate ∷ []) (record { next = led ++ (record { first = far; second = far }) ∷ []; previous = old.previous ++ last ∷ []; before = b; heads = new.heads; room = new.room })) (sym befores)
-    (subst (λ (h : List Head). AreLinked (gates ++ gate ∷ []) (record { next = led ++ (record { first = far; second = far }) ∷ []; previous = old.previous ++ last ∷ []; before = old.before ++ before ∷ []; heads = h; room = new.room }))
-    (sym (heads ∙ (ap (λ (w : ℕ). set (set old.heads (bucket_of buckets w) one) (bucket_of buckets second) other) first_is
-    ∙ ap (λ (w : ℕ). set (set old.heads (bucket_of buckets (wire_of false gate)) one) (bucket_of buckets w) other) second_is)))
-    (linked_more gates gate old linked few last led both are_led before buckets are
-    (one_before ∙ ap (λ (w : ℕ). (head_at old.heads (bucket_of buckets w)).place) first_is) (other_before ∙ ap (λ (w : ℕ). (head_at old.heads (bucket_of buckets w)).place) second_is)
-    one other (subst (λ (w : ℕ). IsHeadOf gate (length gates) w one) first_is is_one) (subst (λ (w : ℕ). IsHeadOf gate (length gates) w other) second_is is_other) new.room))))
+    (subst (λ (l : List Sides). AreLinked (gates ++ gate ∷ []) (record { next = led; previous = l; before = new.before; heads = new.heads; room = new.room })) (sym previouses)
+    (subst (λ (b : List Sides). AreLinked (gates ++ gate ∷ []) (record { next = led; previous = old.previous ++ ends ∷ []; before = b; heads = new.heads; room = new.room })) (sym befores)
+    (subst (λ (h : List Head). AreLinked (gates ++ gate ∷ []) (record { next = led; previous = old.previous ++ ends ∷ []; before = old.before ++ before ∷ []; heads = h; room = new.room }))
+    (sym (heads ∙ (ap (λ (k : ℕ). set (set old.heads k one) last.bucket other) first_in ∙ ap (λ (k : ℕ). set (set old.heads (bucket_of buckets (wire_of false gate)) one) k other) last_in)))
+    (linked_more gates gate old linked few ends led both are_led is_far before buckets refl
+    (ap (λ (h : Head). h.place) (first_spot.head ∙ ap (λ (k : ℕ). head_at old.heads k) first_in)) (ap (λ (h : Head). h.place) (last_spot.head ∙ ap (λ (k : ℕ). head_at old.heads k) last_in))
+    one other (subst (λ (w : ℕ). IsHeadOf gate (length gates) w one) first_is is_one) (subst (λ (w : ℕ). IsHeadOf gate (length gates) w other) last_is is_other) new.room))))
   where
-    both : (b : Bool) → IsLastOn gates (wire_of b gate) (length gates) (side b last)
-    both true = subst (λ (w : ℕ). IsLastOn gates w (length gates) last.second) second_is is_second
-    both false = subst (λ (w : ℕ). IsLastOn gates w (length gates) last.first) first_is is_first
+    buckets : ℕ
+    buckets = length old.heads
 
--- equal buckets of equal heads know the same place
-pub same_place : {heads old : List Head} {k bucket : ℕ} → heads ≡ old → k ≡ bucket → (head_at heads k).place ≡ (head_at old bucket).place
-same_place {heads} {old} {k} {bucket} same is = ap (λ (xs : List Head). (head_at xs k).place) same ∙ ap (λ (j : ℕ). (head_at old j).place) is
+    before : Sides
+    before = record { first = first.head.place; second = last.head.place }
+
+    first_in : first.bucket ≡ bucket_of buckets (wire_of false gate)
+    first_in = first_spot.bucket ∙ ap (λ (w : ℕ). bucket_of buckets w) first_is
+
+    last_in : last.bucket ≡ bucket_of buckets (wire_of true gate)
+    last_in = last_spot.bucket ∙ ap (λ (w : ℕ). bucket_of buckets w) last_is
+
+    both : (b : Bool) → IsLastOn gates (wire_of b gate) (length gates) (side b ends)
+    both true = subst (λ (w : ℕ). IsLastOn gates w (length gates) ends.second) last_is is_last
+    both false = subst (λ (w : ℕ). IsLastOn gates w (length gates) ends.first) first_is is_first
+
+-- the sides of a new gate, behind those of the others
+pub new_side : (gates : List Gate) (sides : List Sides) (one : Bool) → length sides ≡ length gates → side_at one (sides ++ (record { first = far; second = far }) ∷ []) (length gates) ≡ far
+new_side gates sides one long =
+    ap (λ (p : ℕ). side_at one (sides ++ (record { first = far; second = far }) ∷ []) p) (sym long)
+    ∙ (ap (side one) (get_or-append_seam sides (record { first = far; second = far }) [] (record { first = 0; second = 0 })) ∙ both one)
+  where
+    both : (one : Bool) → side one (record { first = far; second = far }) ≡ far
+    both true = refl
+    both false = refl
 
 -- what is left of a list whose whole prefix was written
 pub all_written : {X : Type 0} (n : ℕ) (xs ys : List X) → n ≡ length xs → take n (xs ++ drop (length xs) ys) ≡ xs

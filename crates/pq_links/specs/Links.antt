@@ -4,6 +4,7 @@ use Rattle.pq_gate.specs.declared.gate.Gate.{Gate}
 use Rattle.pq_gate.specs.Commuting.{Touches}
 use Rattle.pq_links.specs.declared.links.Sides.{Sides}
 use Rattle.pq_links.specs.declared.links.Head.{Head}
+use Rattle.pq_links.specs.declared.links.Spot.{Spot}
 use Rattle.pq_links.specs.Wires.{wire_of}
 use Rattle.pq_links.specs.Places.{gate_at}
 
@@ -54,16 +55,24 @@ is_on second head = cond second head.last head.first
 abbrev pub head_at : List Head → ℕ → Head
 head_at heads bucket = slice_index_or heads bucket (record { wire = 0; place = 0; first = false; last = false })
 
--- The head of a bucket: the last place in it, with a wire of its gate, and which of the gate's wires that is.
+-- The head of a bucket: the last place in it, with a wire of its gate, and which of the gate's wires that is. A head of no
+-- place is on neither.
 pub record IsHead (buckets bucket : ℕ) (gates : List Gate) (head : Head) : Type 0 where
   pub last : IsLastIn buckets bucket gates (length gates) head.place
   pub uses : head.place < length gates → Touches (gate_at gates head.place) head.wire
   pub sides : (one : Bool) → head.place < length gates → is_on one head ≡ (wire_of one (gate_at gates head.place) == head.wire)
+  pub none : length gates ≤ head.place → (one : Bool) → is_on one head ≡ false
 
--- The last place on a wire, and which of its gate's wires that is.
+-- A wire with its bucket, and the head of that bucket.
+pub record IsSpot (heads : List Head) (spot : Spot) : Type 0 where
+  pub bucket : spot.bucket ≡ bucket_of (length heads) spot.wire
+  pub head : spot.head ≡ head_at heads spot.bucket
+
+-- The last place on a wire, and which of its gate's wires that is. Where there is none, it is neither.
 pub record IsEndOn (gates : List Gate) (wire : ℕ) (end : Head) : Type 0 where
   pub last : IsLastOn gates wire (length gates) end.place
   pub sides : (one : Bool) → end.place < length gates → is_on one end ≡ (wire_of one (gate_at gates end.place) == wire)
+  pub none : length gates ≤ end.place → (one : Bool) → is_on one end ≡ false
 
 -- each bucket knows the last place in it
 abbrev pub AreHeads : List Gate → List Head → Type 0

@@ -3,7 +3,7 @@ ghost use Rattle.pq_gate.specs.Commuting.{Touches};
 ghost use Rattle.pq_gate.specs.Ports.{last_wire};
 ghost use Rattle.pq_links.specs.Wires.{wire_of};
 ghost use Rattle.pq_links.specs.Places.{gate_at};
-ghost use Rattle.pq_links.specs.Links.{bucket_of, side_at, is_on, IsNextOn, IsLastIn, IsHead, IsEndOn, AreLinked, AreBefore};
+ghost use Rattle.pq_links.specs.Links.{bucket_of, side_at, head_at, is_on, IsNextOn, IsLastIn, IsSpot, IsEndOn, AreLinked, AreBefore};
 ghost use Rattle.pq_links.specs.Slots.{AreNext};
 ghost use Rattle.pq_links.specs.Leading.{IsHeadOf, AreLed};
 
@@ -32,6 +32,14 @@ pub(crate) struct Head {
     place: u16,
     first: bool,
     last: bool,
+}
+
+// a wire, its bucket, and the bucket's head
+#[derive(Clone, Copy)]
+struct Spot {
+    wire: u32,
+    bucket: usize,
+    head: Head,
 }
 
 /// No place for either wire.
@@ -129,19 +137,52 @@ impl Links {
         ensures linked { (gate : Gate) → wire ≡ wire_of false gate → wire ≡ wire_of true gate → AreLinked (gates.now ++ gate ∷ []) self.new }
         ensures room { self.new.room ≡ self.old.room }
     {
-        let place = gates.len() as u16;
-        let heads = self.heads.as_slice();
-        let buckets = heads.len();
-        let bucket = bucket_in(wire, buckets);
-        let head = heads[bucket];
-        let end = last_on(gates, self.before.as_slice(), buckets, head, wire);
-        let next = self.next.as_mut_slice();
-        lead_on(next, end, place);
+        let spot = spot_in(self.heads.as_slice(), wire);
+        if is_end(spot.head, spot.wire) {
+            self.append_on_one(gates, spot, spot.head);
+        } else {
+            self.search_on_one(gates, spot);
+        }
+    }
+
+    // The same, where the last place on the wire is further back in its bucket. It is seldom called, so it stands
+    // out of line.
+    #[inline(never)]
+    fn search_on_one(&mut self, gates: &[Gate], spot: Spot)
+        requires linked { AreLinked gates.now self.old }
+        requires room { length gates.now < self.old.room }
+        requires spot { IsSpot self.old.heads spot }
+        ensures linked { (gate : Gate) → spot.wire ≡ wire_of false gate → spot.wire ≡ wire_of true gate → AreLinked (gates.now ++ gate ∷ []) self.new }
+        ensures room { self.new.room ≡ self.old.room }
+    {
+        let end = last_before(
+            gates,
+            self.before.as_slice(),
+            self.heads.len(),
+            spot.head.place,
+            spot.wire,
+        );
+        self.append_on_one(gates, spot, end);
+    }
+
+    // The same, where the last place on the wire is known. It doesn't branch.
+    #[inline(always)]
+    fn append_on_one(&mut self, gates: &[Gate], spot: Spot, end: Head)
+        requires linked { AreLinked gates.now self.old }
+        requires room { length gates.now < self.old.room }
+        requires spot { IsSpot self.old.heads spot }
+        requires end { IsEndOn gates.now spot.wire end }
+        ensures linked { (gate : Gate) → spot.wire ≡ wire_of false gate → spot.wire ≡ wire_of true gate → AreLinked (gates.now ++ gate ∷ []) self.new }
+        ensures room { self.new.room ≡ self.old.room }
+    {
         self.next.push_reserved(NO_PLACES);
+        let place = gates.len() as u16;
+        lead_on(self.next.as_mut_slice(), end, place);
         self.previous.push_reserved(pair(end.place, end.place));
-        self.before.push_reserved(pair(head.place, head.place));
-        self.heads[bucket] = Head {
-            wire,
+        self.before
+            .push_reserved(pair(spot.head.place, spot.head.place));
+        self.heads[spot.bucket] = Head {
+            wire: spot.wire,
             place,
             first: true,
             last: true,
@@ -149,6 +190,7 @@ impl Links {
     }
 
     // appends a gate whose first and last wire are these two
+    #[inline(never)]
     fn push_on_two(&mut self, gates: &[Gate], wire: u32, other: u32)
         requires linked { AreLinked gates.now self.old }
         requires room { length gates.now < self.old.room }
@@ -156,34 +198,82 @@ impl Links {
         ensures linked { (gate : Gate) → wire ≡ wire_of false gate → other ≡ wire_of true gate → AreLinked (gates.now ++ gate ∷ []) self.new }
         ensures room { self.new.room ≡ self.old.room }
     {
-        let place = gates.len() as u16;
         let heads = self.heads.as_slice();
-        let buckets = heads.len();
-        let bucket = bucket_in(wire, buckets);
-        let other_bucket = bucket_in(other, buckets);
-        let head = heads[bucket];
-        let other_head = heads[other_bucket];
-        let first = last_on(gates, self.before.as_slice(), buckets, head, wire);
-        let last = last_on(gates, self.before.as_slice(), buckets, other_head, other);
-        let next = self.next.as_mut_slice();
-        lead_on(next, first, place);
-        lead_on(next, last, place);
+        let first = spot_in(heads, wire);
+        let last = spot_in(heads, other);
+        if is_end(first.head, first.wire) & is_end(last.head, last.wire) {
+            self.append_on_two(gates, first, last, first.head, last.head);
+        } else {
+            self.search_on_two(gates, first, last);
+        }
+    }
+
+    // The same, where the last place on either wire is further back in its bucket. It is seldom called, so it stands
+    // out of line.
+    #[inline(never)]
+    fn search_on_two(&mut self, gates: &[Gate], first: Spot, last: Spot)
+        requires linked { AreLinked gates.now self.old }
+        requires room { length gates.now < self.old.room }
+        requires apart { first.wire ≢ last.wire }
+        requires first { IsSpot self.old.heads first }
+        requires last { IsSpot self.old.heads last }
+        ensures linked { (gate : Gate) → first.wire ≡ wire_of false gate → last.wire ≡ wire_of true gate → AreLinked (gates.now ++ gate ∷ []) self.new }
+        ensures room { self.new.room ≡ self.old.room }
+    {
+        let end = self.last_on(gates, first);
+        let other_end = self.last_on(gates, last);
+        self.append_on_two(gates, first, last, end, other_end);
+    }
+
+    // The same, where the last places on both wires are known. It doesn't branch.
+    #[inline(always)]
+    fn append_on_two(&mut self, gates: &[Gate], first: Spot, last: Spot, end: Head, other_end: Head)
+        requires linked { AreLinked gates.now self.old }
+        requires room { length gates.now < self.old.room }
+        requires apart { first.wire ≢ last.wire }
+        requires first { IsSpot self.old.heads first }
+        requires last { IsSpot self.old.heads last }
+        requires end { IsEndOn gates.now first.wire end }
+        requires other_end { IsEndOn gates.now last.wire other_end }
+        ensures linked { (gate : Gate) → first.wire ≡ wire_of false gate → last.wire ≡ wire_of true gate → AreLinked (gates.now ++ gate ∷ []) self.new }
+        ensures room { self.new.room ≡ self.old.room }
+    {
         self.next.push_reserved(NO_PLACES);
-        self.previous.push_reserved(pair(first.place, last.place));
+        let place = gates.len() as u16;
+        let next = self.next.as_mut_slice();
+        lead_on(next, end, place);
+        lead_on(next, other_end, place);
+        self.previous
+            .push_reserved(pair(end.place, other_end.place));
         self.before
-            .push_reserved(pair(head.place, other_head.place));
-        self.heads[bucket] = Head {
-            wire,
+            .push_reserved(pair(first.head.place, last.head.place));
+        self.heads[first.bucket] = Head {
+            wire: first.wire,
             place,
             first: true,
             last: false,
         };
-        self.heads[other_bucket] = Head {
-            wire: other,
+        self.heads[last.bucket] = Head {
+            wire: last.wire,
             place,
             first: false,
             last: true,
         };
+    }
+
+    // the last place on the wire, or FAR where there is none, by the head of the wire's bucket
+    fn last_on(&self, gates: &[Gate], spot: Spot) -> Head
+        requires linked { AreLinked gates.now self.now }
+        requires room { length gates.now < self.now.room }
+        requires spot { IsSpot self.now.heads spot }
+        ensures { IsEndOn gates.now spot.wire result }
+    {
+        let before = self.before.as_slice();
+        let buckets = self.heads.len();
+        if is_end(spot.head, spot.wire) {
+            return spot.head;
+        }
+        last_before(gates, before, buckets, spot.head.place, spot.wire)
     }
 
     /// Becomes the links of these gates.
@@ -269,23 +359,41 @@ fn pair(first: u16, second: u16) -> Sides
     Sides { first, second }
 }
 
-// the last place on the wire, or FAR where there is none, by the head of the wire's bucket
-fn last_on(gates: &[Gate], before: &[Sides], buckets: usize, head: Head, wire: u32) -> Head
-    requires few { length gates.now < FAR }
-    requires some { 0 < buckets }
-    requires buckets { buckets ≤ 2 * FAR }
-    requires befores { length before.now ≡ length gates.now }
-    requires before { AreBefore buckets gates.now before.now }
-    requires head { IsHead buckets (bucket_of buckets wire) gates.now head }
-    ensures { IsEndOn gates.now wire result }
+// a wire's bucket and the bucket's head
+fn spot_in(heads: &[Head], wire: u32) -> Spot
+    requires some { 0 < length heads.now }
+    requires few { length heads.now ≤ 2 * FAR }
+    ensures is { IsSpot heads.now result }
+    ensures wire { result.wire ≡ wire }
 {
-    if (head.wire == wire) | (head.place as usize >= gates.len()) {
-        return head;
-    }
-    last_before(gates, before, buckets, head.place, wire)
+    let bucket = bucket_in(wire, heads.len());
+    let head = read_head(heads, bucket);
+    Spot { wire, bucket, head }
 }
 
-// the same, from the last place in the wire's bucket on back
+// The head of a bucket, read field by field: it was written so, and a processor waits where one wide read follows
+// narrow writes.
+fn read_head(heads: &[Head], bucket: usize) -> Head
+    requires { bucket < length heads.now }
+    ensures { result ≡ head_at heads.now bucket }
+{
+    Head {
+        wire: heads[bucket].wire,
+        place: heads[bucket].place,
+        first: heads[bucket].first,
+        last: heads[bucket].last,
+    }
+}
+
+// Whether the head is that of an empty bucket, or is on the wire itself: then it is the last place on the wire. Which
+// of the two can't be foretold, so it is one test.
+fn is_end(head: Head, wire: u32) -> bool
+    ensures { result ≡ true → (head.wire ≡ wire) ⊎ (head.place ≡ FAR) }
+{
+    (head.wire == wire) | (head.place as u32 == FAR)
+}
+
+// the last place on the wire, or FAR where there is none, from the last place in the wire's bucket on back
 fn last_before(gates: &[Gate], before: &[Sides], buckets: usize, from: u16, wire: u32) -> Head
     requires few { length gates.now < FAR }
     requires some { 0 < buckets }
@@ -386,18 +494,20 @@ pub(crate) fn lead_both(slots: &[Gate], sides: &mut [Sides], gate: Gate, at: Sid
     );
 }
 
-// leads on from the last gate on a wire to this place
+// Leads on from the last gate on a wire to this place, the last in the list. Where there is no such gate, the side at
+// this very place is written as it was, so it doesn't branch.
 fn lead_on(next: &mut [Sides], end: Head, place: u16)
-    ensures led { (one : Bool) → end.place < length next.old → is_on one end ≡ true → side_at one next.new end.place ≡ place }
-    ensures others { (p : ℕ) (one : Bool) → (p ≡ end.place → p < length next.old → is_on one end ≡ true → ⊥) → side_at one next.new p ≡ side_at one next.old p }
+    requires place { place < length next.old }
+    requires none { place ≤ end.place → (one : Bool) → is_on one end ≡ false }
+    ensures led { (one : Bool) → end.place < place → is_on one end ≡ true → side_at one next.new end.place ≡ place }
+    ensures others { (p : ℕ) (one : Bool) → (p ≡ end.place → p < place → is_on one end ≡ true → ⊥) → side_at one next.new p ≡ side_at one next.old p }
 {
-    if (end.place as usize) < next.len() {
-        let sides = next[end.place as usize];
-        next[end.place as usize] = Sides {
-            first: if end.first { place } else { sides.first },
-            second: if end.last { place } else { sides.second },
-        };
-    }
+    let at = end.place.min(place) as usize;
+    let sides = next[at];
+    next[at] = Sides {
+        first: if end.first { place } else { sides.first },
+        second: if end.last { place } else { sides.second },
+    };
 }
 
 // leads on from the last gate on the wire, whose last wire is `end`, to this place
