@@ -9,8 +9,8 @@ use Rattle.pq_links.specs.Wires.{wire_of}
 use Rattle.pq_links.specs.Places.{gate_at}
 use Rattle.pq_links.specs.declared.links.Head.{Head}
 use Rattle.pq_links.specs.declared.links.Spot.{Spot}
-use Rattle.pq_links.specs.Links.{bucket_of, is_on, head_at, far, IsHead, IsSpot, IsEndOn, IsLastIn, IsLastOn, LinksView, AreLinked}
-use Rattle.pq_links.specs.Leading.{IsHeadOf}
+use Rattle.pq_links.specs.Links.{bucket_of, is_on, head_at, far, IsHead, IsEndOn, IsLastIn, IsLastOn, LinksView, AreLinked}
+use Rattle.pq_links.specs.Leading.{IsHeadOf, IsSpot}
 use Rattle.pq_links.proofs.Touching.{touched, touching}
 
 -- each wire has its bucket

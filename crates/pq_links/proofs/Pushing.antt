@@ -13,9 +13,9 @@ use Rattle.pq_links.specs.Wires.{wire_of}
 use Rattle.pq_links.specs.Places.{gate_at}
 use Rattle.pq_links.specs.declared.links.Head.{Head}
 use Rattle.pq_links.specs.declared.links.Spot.{Spot}
-use Rattle.pq_links.specs.Links.{bucket_of, side, side_at, head_at, far, IsHead, IsSpot, IsNextOn, IsLastIn, IsLastOn, LinksView, AreLinked}
+use Rattle.pq_links.specs.Links.{bucket_of, side, side_at, head_at, far, IsHead, IsNextOn, IsLastIn, IsLastOn, LinksView, AreLinked}
 use Rattle.pq_links.proofs.Buckets.{bucket_below}
-use Rattle.pq_links.specs.Leading.{IsHeadOf, IsLedAt, AreLed}
+use Rattle.pq_links.specs.Leading.{IsHeadOf, IsLedAt, AreLed, IsSpot}
 use Rattle.pq_links.proofs.Touching.{touching, on_which}
 
 module _ (gates : List Gate) (gate : Gate) where

@@ -3,9 +3,15 @@ use Rattle.std.specs.Prelude.{◌≡◌, ℕ, ◌*◌, ◌<◌, ◌≤◌, ◌�
 use Rattle.pq_gate.specs.declared.gate.Gate.{Gate}
 use Rattle.pq_links.specs.declared.links.Sides.{Sides}
 use Rattle.pq_links.specs.declared.links.Head.{Head}
+use Rattle.pq_links.specs.declared.links.Spot.{Spot}
 use Rattle.pq_links.specs.Wires.{wire_of}
 use Rattle.pq_links.specs.Places.{gate_at}
-use Rattle.pq_links.specs.Links.{side, side_at, is_on, far}
+use Rattle.pq_links.specs.Links.{bucket_of, head_at, side, side_at, is_on, far}
+
+-- A wire with its bucket, and the head of that bucket.
+pub record IsSpot (heads : List Head) (spot : Spot) : Type 0 where
+  pub bucket : spot.bucket ≡ bucket_of (length heads) spot.wire
+  pub head : spot.head ≡ head_at heads spot.bucket
 
 -- the head at this place on one of the gate's wires
 pub record IsHeadOf (gate : Gate) (place wire : ℕ) (head : Head) : Type 0 where

@@ -4,7 +4,6 @@ use Rattle.pq_gate.specs.declared.gate.Gate.{Gate}
 use Rattle.pq_gate.specs.Commuting.{Touches}
 use Rattle.pq_links.specs.declared.links.Sides.{Sides}
 use Rattle.pq_links.specs.declared.links.Head.{Head}
-use Rattle.pq_links.specs.declared.links.Spot.{Spot}
 use Rattle.pq_links.specs.Wires.{wire_of}
 use Rattle.pq_links.specs.Places.{gate_at}
 
@@ -62,11 +61,6 @@ pub record IsHead (buckets bucket : ℕ) (gates : List Gate) (head : Head) : Typ
   pub uses : head.place < length gates → Touches (gate_at gates head.place) head.wire
   pub sides : (one : Bool) → head.place < length gates → is_on one head ≡ (wire_of one (gate_at gates head.place) == head.wire)
   pub none : length gates ≤ head.place → (one : Bool) → is_on one head ≡ false
-
--- A wire with its bucket, and the head of that bucket.
-pub record IsSpot (heads : List Head) (spot : Spot) : Type 0 where
-  pub bucket : spot.bucket ≡ bucket_of (length heads) spot.wire
-  pub head : spot.head ≡ head_at heads spot.bucket
 
 -- The last place on a wire, and which of its gate's wires that is. Where there is none, it is neither.
 pub record IsEndOn (gates : List Gate) (wire : ℕ) (end : Head) : Type 0 where

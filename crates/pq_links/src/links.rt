@@ -3,9 +3,9 @@ ghost use Rattle.pq_gate.specs.Commuting.{Touches};
 ghost use Rattle.pq_gate.specs.Ports.{last_wire};
 ghost use Rattle.pq_links.specs.Wires.{wire_of};
 ghost use Rattle.pq_links.specs.Places.{gate_at};
-ghost use Rattle.pq_links.specs.Links.{bucket_of, side_at, head_at, is_on, IsNextOn, IsLastIn, IsSpot, IsEndOn, AreLinked, AreBefore};
+ghost use Rattle.pq_links.specs.Links.{bucket_of, side_at, head_at, is_on, IsNextOn, IsLastIn, IsEndOn, AreLinked, AreBefore};
 ghost use Rattle.pq_links.specs.Slots.{AreNext};
-ghost use Rattle.pq_links.specs.Leading.{IsHeadOf, AreLed};
+ghost use Rattle.pq_links.specs.Leading.{IsHeadOf, AreLed, IsSpot};
 
 use pq_gate::Gate;
 use pq_list::OutOfMemory;

@@ -3,8 +3,8 @@ use Rattle.std.proofs.lemmas.Bool.{eq-eqb}
 use Rattle.std.proofs.lemmas.List.{set-set}
 use Rattle.pq_links.specs.declared.links.Sides.{Sides}
 use Rattle.pq_links.specs.declared.links.Head.{Head}
-use Rattle.pq_links.specs.Links.{side_at, is_on, far, IsSpot, LinksView, AreLinked}
-use Rattle.pq_links.specs.Leading.{AreLed}
+use Rattle.pq_links.specs.Links.{side_at, is_on, far, LinksView, AreLinked}
+use Rattle.pq_links.specs.Leading.{AreLed, IsSpot}
 use Rattle.pq_links.proofs.Leading.{led_once, led_end, head_by}
 use Rattle.pq_links.proofs.Pushing.{pushed, new_side, all_written}
 use Rattle.pq_links.proofs.links.Links.append_on_one.Goals as goal

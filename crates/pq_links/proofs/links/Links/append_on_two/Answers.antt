@@ -2,8 +2,8 @@ use Rattle.std.proofs.Common.{◌≡◌, ℕ, ◌<◌, Bool, true, false, ◌++�
 use Rattle.std.proofs.lemmas.Bool.{eq-eqb, ne_eqb}
 use Rattle.pq_links.specs.declared.links.Sides.{Sides}
 use Rattle.pq_links.specs.declared.links.Head.{Head}
-use Rattle.pq_links.specs.Links.{side_at, is_on, far, IsSpot, LinksView, AreLinked}
-use Rattle.pq_links.specs.Leading.{AreLed}
+use Rattle.pq_links.specs.Links.{side_at, is_on, far, LinksView, AreLinked}
+use Rattle.pq_links.specs.Leading.{AreLed, IsSpot}
 use Rattle.pq_links.proofs.Leading.{led_ends, head_by}
 use Rattle.pq_links.proofs.Pushing.{pushed, new_side, all_written}
 use Rattle.pq_links.proofs.links.Links.append_on_two.Goals as goal

@@ -1,7 +1,8 @@
 use Rattle.std.proofs.Common.{◌≡◌, List, ap, ◌∙◌, arith, subst}
 use Rattle.std.proofs.lemmas.Bool.Decides.{nat_tests}
 use Rattle.pq_links.specs.declared.links.Head.{Head}
-use Rattle.pq_links.specs.Links.{IsSpot, LinksView}
+use Rattle.pq_links.specs.Links.{LinksView}
+use Rattle.pq_links.specs.Leading.{IsSpot}
 use Rattle.pq_links.proofs.Buckets.{spot_known}
 use Rattle.pq_links.proofs.links.Links.push_on_two.Goals as goal
 
