@@ -141,27 +141,21 @@ impl Links {
         if is_end(spot.head, spot.wire) {
             self.append_on_one(gates, spot, spot.head);
         } else {
-            self.search_on_one(gates, spot);
+            self.search_on_one(gates, wire);
         }
     }
 
     // The same, where the last place on the wire is further back in its bucket. It is seldom called, so it stands
-    // out of line.
+    // out of line, and looks the wire up again.
     #[inline(never)]
-    fn search_on_one(&mut self, gates: &[Gate], spot: Spot)
+    fn search_on_one(&mut self, gates: &[Gate], wire: u32)
         requires linked { AreLinked gates.now self.old }
         requires room { length gates.now < self.old.room }
-        requires spot { IsSpot self.old.heads spot }
-        ensures linked { (gate : Gate) → spot.wire ≡ wire_of false gate → spot.wire ≡ wire_of true gate → AreLinked (gates.now ++ gate ∷ []) self.new }
+        ensures linked { (gate : Gate) → wire ≡ wire_of false gate → wire ≡ wire_of true gate → AreLinked (gates.now ++ gate ∷ []) self.new }
         ensures room { self.new.room ≡ self.old.room }
     {
-        let end = last_before(
-            gates,
-            self.before.as_slice(),
-            self.heads.len(),
-            spot.head.place,
-            spot.wire,
-        );
+        let spot = spot_in(self.heads.as_slice(), wire);
+        let end = self.last_on(gates, spot);
         self.append_on_one(gates, spot, end);
     }
 
@@ -181,12 +175,7 @@ impl Links {
         self.previous.push_reserved(pair(end.place, end.place));
         self.before
             .push_reserved(pair(spot.head.place, spot.head.place));
-        self.heads[spot.bucket] = Head {
-            wire: spot.wire,
-            place,
-            first: true,
-            last: true,
-        };
+        self.heads[spot.bucket] = head_of_sides(spot.wire, place, true, true);
     }
 
     // appends a gate whose first and last wire are these two
@@ -204,22 +193,23 @@ impl Links {
         if is_end(first.head, first.wire) & is_end(last.head, last.wire) {
             self.append_on_two(gates, first, last, first.head, last.head);
         } else {
-            self.search_on_two(gates, first, last);
+            self.search_on_two(gates, wire, other);
         }
     }
 
     // The same, where the last place on either wire is further back in its bucket. It is seldom called, so it stands
-    // out of line.
+    // out of line, and looks the wires up again.
     #[inline(never)]
-    fn search_on_two(&mut self, gates: &[Gate], first: Spot, last: Spot)
+    fn search_on_two(&mut self, gates: &[Gate], wire: u32, other: u32)
         requires linked { AreLinked gates.now self.old }
         requires room { length gates.now < self.old.room }
-        requires apart { first.wire ≢ last.wire }
-        requires first { IsSpot self.old.heads first }
-        requires last { IsSpot self.old.heads last }
-        ensures linked { (gate : Gate) → first.wire ≡ wire_of false gate → last.wire ≡ wire_of true gate → AreLinked (gates.now ++ gate ∷ []) self.new }
+        requires apart { wire ≢ other }
+        ensures linked { (gate : Gate) → wire ≡ wire_of false gate → other ≡ wire_of true gate → AreLinked (gates.now ++ gate ∷ []) self.new }
         ensures room { self.new.room ≡ self.old.room }
     {
+        let heads = self.heads.as_slice();
+        let first = spot_in(heads, wire);
+        let last = spot_in(heads, other);
         let end = self.last_on(gates, first);
         let other_end = self.last_on(gates, last);
         self.append_on_two(gates, first, last, end, other_end);
@@ -247,18 +237,8 @@ impl Links {
             .push_reserved(pair(end.place, other_end.place));
         self.before
             .push_reserved(pair(first.head.place, last.head.place));
-        self.heads[first.bucket] = Head {
-            wire: first.wire,
-            place,
-            first: true,
-            last: false,
-        };
-        self.heads[last.bucket] = Head {
-            wire: last.wire,
-            place,
-            first: false,
-            last: true,
-        };
+        self.heads[first.bucket] = head_of_sides(first.wire, place, true, false);
+        self.heads[last.bucket] = head_of_sides(last.wire, place, false, true);
     }
 
     // the last place on the wire, or FAR where there is none, by the head of the wire's bucket
@@ -352,7 +332,7 @@ pub(crate) fn side_on(gates: &[Gate], sides: &[Sides], place: u32, wire: u32) ->
     }
 }
 
-// a place for each of two wires
+// a place for each of two wires, made in one piece as a head is
 fn pair(first: u16, second: u16) -> Sides
     ensures { result ≡ record { first = first; second = second } }
 {
@@ -367,21 +347,22 @@ fn spot_in(heads: &[Head], wire: u32) -> Spot
     ensures wire { result.wire ≡ wire }
 {
     let bucket = bucket_in(wire, heads.len());
-    let head = read_head(heads, bucket);
-    Spot { wire, bucket, head }
+    Spot {
+        wire,
+        bucket,
+        head: heads[bucket],
+    }
 }
 
-// The head of a bucket, read field by field: it was written so, and a processor waits where one wide read follows
-// narrow writes.
-fn read_head(heads: &[Head], bucket: usize) -> Head
-    requires { bucket < length heads.now }
-    ensures { result ≡ head_at heads.now bucket }
+// A head made in one piece: it is written and read whole, and a processor waits where one wide read follows narrow writes.
+fn head_of_sides(wire: u32, place: u16, first: bool, last: bool) -> Head
+    ensures { result ≡ record { wire = wire; place = place; first = first; last = last } }
 {
     Head {
-        wire: heads[bucket].wire,
-        place: heads[bucket].place,
-        first: heads[bucket].first,
-        last: heads[bucket].last,
+        wire,
+        place,
+        first,
+        last,
     }
 }
 
@@ -504,10 +485,10 @@ fn lead_on(next: &mut [Sides], end: Head, place: u16)
 {
     let at = end.place.min(place) as usize;
     let sides = next[at];
-    next[at] = Sides {
-        first: if end.first { place } else { sides.first },
-        second: if end.last { place } else { sides.second },
-    };
+    next[at] = pair(
+        if end.first { place } else { sides.first },
+        if end.last { place } else { sides.second },
+    );
 }
 
 // leads on from the last gate on the wire, whose last wire is `end`, to this place

@@ -1,4 +1,4 @@
-use Rattle.std.proofs.Common.{◌≡◌, ℕ, ◌<◌, Bool, true, ◌++◌, ◌∷◌, [], ap, ◌∙◌, length, refl, sym, subst, arith, List}
+use Rattle.std.proofs.Common.{◌≡◌, ℕ, ◌<◌, Bool, true, ◌++◌, ◌∷◌, [], ap, ◌∙◌, length, refl, set, sym, subst, arith, List}
 use Rattle.std.proofs.lemmas.Bool.{eq-eqb}
 use Rattle.std.proofs.lemmas.List.{set-set}
 use Rattle.pq_links.specs.declared.links.Sides.{Sides}
@@ -38,4 +38,4 @@ returns-clause-linked c gate first_is last_is =
     (all_written c.push_reserved.new.self.len led c.push_reserved.new.self.items (omega (arith, c.push_reserved.ensures.len, long)))
     (c.push_reserved-2.ensures.items ∙ ap (λ (s : Sides). links.previous ++ s ∷ []) c.pair.ensures)
     (c.push_reserved-3.ensures.items ∙ ap (λ (s : Sides). links.before ++ s ∷ []) c.pair-2.ensures)
-    (sym (set-set links.heads spot.bucket head head))
+    (ap (λ (h : Head). set links.heads spot.bucket h) c.head_of_sides.ensures ∙ sym (set-set links.heads spot.bucket head head))

@@ -1,4 +1,4 @@
-use Rattle.std.proofs.Common.{◌≡◌, ℕ, ◌<◌, Bool, true, false, ◌++◌, ◌∷◌, [], ap, ◌∙◌, length, refl, sym, subst, arith, List}
+use Rattle.std.proofs.Common.{◌≡◌, ℕ, ◌<◌, Bool, true, false, ◌++◌, ◌∷◌, [], ap, ◌∙◌, length, set, refl, sym, subst, arith, List}
 use Rattle.std.proofs.lemmas.Bool.{eq-eqb, ne_eqb}
 use Rattle.pq_links.specs.declared.links.Sides.{Sides}
 use Rattle.pq_links.specs.declared.links.Head.{Head}
@@ -45,4 +45,5 @@ returns-clause-linked c gate first_is last_is =
     (all_written c.push_reserved.new.self.len led c.push_reserved.new.self.items (omega (arith, c.push_reserved.ensures.len, mid_long, led_long)))
     (c.push_reserved-2.ensures.items ∙ ap (λ (s : Sides). links.previous ++ s ∷ []) c.pair.ensures)
     (c.push_reserved-3.ensures.items ∙ ap (λ (s : Sides). links.before ++ s ∷ []) c.pair-2.ensures)
-    refl
+    (ap (λ (h : Head). set (set links.heads first.bucket h) last.bucket c.head_of_sides-2.result) c.head_of_sides.ensures
+    ∙ ap (λ (h : Head). set (set links.heads first.bucket head) last.bucket h) c.head_of_sides-2.ensures)
