@@ -73,19 +73,32 @@ fn gate(word: u64, qubits: u32) -> Gate
     }
 }
 
-/// The gate on a wire of a kind that has one wire. Which kind comes can't be foretold, so it is no branch.
+/// The gate on a wire of a kind that has one wire.
 fn on_one_wire(kind: u64, wire: u32) -> Gate
     requires { kind < CX }
     ensures { (qubits number : ℕ) → wire ≡ number % qubits → result ≡ gate_of kind qubits number }
 {
+    if kind >= 2 {
+        phase(eighths_of(kind), wire)
+    } else if kind == 1 {
+        Gate::X { wire }
+    } else {
+        Gate::H { wire }
+    }
+}
+
+/// The eighths of a kind that is a phase. Which kind comes can't be foretold, so they are looked up and not jumped to.
+fn eighths_of(kind: u64) -> Eighths
+    requires phase { 2 ≤ kind }
+    requires one_wire { kind < CX }
+    ensures { (qubits number : ℕ) → Phase result (number % qubits) ≡ gate_of kind qubits number }
+{
     match kind {
-        0 => Gate::H { wire },
-        1 => Gate::X { wire },
-        2 => phase(Eighths::Z, wire),
-        3 => phase(Eighths::S, wire),
-        4 => phase(Eighths::Sdg, wire),
-        5 => phase(Eighths::T, wire),
-        _ => phase(Eighths::Tdg, wire),
+        2 => Eighths::Z,
+        3 => Eighths::S,
+        4 => Eighths::Sdg,
+        5 => Eighths::T,
+        _ => Eighths::Tdg,
     }
 }
 

@@ -1,8 +1,8 @@
 -- Gates spread over slots, and written back.
-use Rattle.std.proofs.Common.{◌≡◌, ℕ, zero, suc, ◌+◌, ◌*◌, ◌<◌, ◌≤◌, Bool, true, false, cond, List, [], ◌∷◌, ◌++◌, length, get_or, set, take, drop, refl, ap, sym, subst, ◌∙◌, arith, inl, inr, ◌⊎◌}
+use Rattle.std.proofs.Common.{◌≡◌, ℕ, zero, suc, ◌+◌, ◌-◌, ◌*◌, ◌<◌, ◌≤◌, Bool, true, false, cond, List, [], ◌∷◌, ◌++◌, length, get_or, set, take, drop, refl, ap, sym, subst, ◌∙◌, arith, inl, inr, ◌⊎◌}
 use Rattle.std.proofs.lemmas.Bool.{cases_lt, ne_eqb}
 use Rattle.std.proofs.Math.ListN.{get_or-append}
-use Rattle.std.proofs.Math.Seq.{get_or-append_seam}
+use Rattle.std.proofs.Math.Seq.{get_or-append_right}
 use Rattle.std.proofs.lemmas.Grind.{take-set_at}
 use Rattle.std.proofs.lemmas.List.{take_more, append-nil, length-append, length-set, take-append-drop}
 use Rattle.pq_gate.specs.declared.gate.Gate.{Gate}
@@ -22,15 +22,22 @@ taken_gate gate apart = ne_eqb (first_wire gate) no_wire (λ same. apart (subst 
 pub taken_slots : (gates : List Gate) → AreTaken gates → AreSlots gates
 taken_slots gates taken p below touches = absurd (taken p below touches)
 
--- one gate more
-pub taken_more : (gates : List Gate) (gate : Gate) → AreTaken gates → ¬ Touches gate no_wire → AreTaken (gates ++ gate ∷ [])
-taken_more gates gate taken apart p below = by (cases_lt p (length gates))
+-- more gates behind them
+pub taken_all : (gates more : List Gate) → AreTaken gates → AreTaken more → AreTaken (gates ++ more)
+taken_all gates more taken more_taken p below = by (cases_lt p (length gates))
   where
-    by : (p < length gates) ⊎ (length gates ≤ p) → ¬ Touches (gate_at (gates ++ gate ∷ []) p) no_wire
-    by (inl less) = subst (λ (g : Gate). ¬ Touches g no_wire) (sym (get_or-append gates (gate ∷ []) (H 0) p less)) (taken p less)
+    by : (p < length gates) ⊎ (length gates ≤ p) → ¬ Touches (gate_at (gates ++ more) p) no_wire
+    by (inl less) = subst (λ (g : Gate). ¬ Touches g no_wire) (sym (get_or-append gates more (H 0) p less)) (taken p less)
     by (inr from) =
-        let here : p ≡ length gates = omega (arith, length-append gates (gate ∷ [])) in
-        subst (λ (g : Gate). ¬ Touches g no_wire) (sym (ap (λ (k : ℕ). gate_at (gates ++ gate ∷ []) k) here ∙ get_or-append_seam gates gate [] (H 0))) apart
+        subst (λ (g : Gate). ¬ Touches g no_wire) (sym (get_or-append_right gates more p (H 0) from))
+        (more_taken (p - length gates) (omega (arith, length-append gates more)))
+
+pub taken_more : (gates : List Gate) (gate : Gate) → AreTaken gates → ¬ Touches gate no_wire → AreTaken (gates ++ gate ∷ [])
+taken_more gates gate taken apart = taken_all gates (gate ∷ []) taken one
+  where
+    one : AreTaken (gate ∷ [])
+    one zero below = apart
+    one (suc p) below = absurd (omega arith)
 
 -- what was spread is held
 pub spread_gates : (gates : List Gate) → AreTaken gates → gates_in (spread gates) ≡ gates

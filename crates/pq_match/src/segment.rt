@@ -1,9 +1,11 @@
-ghost use Rattle.std.specs.Prelude.{◌≡◌, ℕ, ◌<◌, ◌≤◌, ◌↔◌, [], ◌∷◌, ◌++◌, length, IfOk, IfSome, IsNone};
+ghost use Rattle.std.specs.Prelude.{◌≡◌, ℕ, ◌+◌, ◌<◌, ◌≤◌, ◌↔◌, [], ◌∷◌, ◌++◌, length, take, IfOk, IfSome, IsNone, vec_len, vec_capacity};
 ghost use Rattle.pq_gate.specs.Commuting.{Touches};
+ghost use Rattle.pq_links.specs.Links.{AreLinked};
 ghost use Rattle.pq_match.specs.Redex.{gate_at};
 ghost use Rattle.pq_match.specs.Segment.{IsNextUse};
 
 use crate::slots::Slots;
+use crate::starts::are_taken;
 use pq_gate::Gate;
 use pq_limits::MAX_SEGMENT;
 use pq_links::{Links, NO_WIRE};
@@ -104,6 +106,21 @@ impl Seg {
         self.loaded = false;
     }
 
+    /// Appends gates, in order. It takes no memory.
+    #[inline(never)]
+    #[tactic(auto, using(crate::proofs::Spreading::taken_all))]
+    pub fn extend(&mut self, gates: &[Gate])
+        requires { length self.old.items + length gates.now ≤ self.old.room }
+        ensures items { self.new.items ≡ self.old.items ++ gates.now }
+        ensures room { self.new.room ≡ self.old.room }
+    {
+        let before = self.gates.len();
+        put_behind(&mut self.gates, gates);
+        link_behind(&mut self.links, self.gates.as_slice(), before);
+        self.taken = self.taken && are_taken(gates);
+        self.loaded = false;
+    }
+
     /// The least place behind this one whose gate uses the wire, None exactly where there is none. The gate at the
     /// place has to use the wire. It takes no memory.
     pub fn next_on_wire(&self, place: u32, wire: u32) -> Option<u32>
@@ -127,6 +144,30 @@ impl Seg {
         ensures few { length result.now ≤ MAX_SEGMENT }
     {
         self.gates.as_slice()
+    }
+}
+
+// appends gates to a list that has room for them
+fn put_behind(list: &mut Vec<Gate>, gates: &[Gate])
+    requires { vec_len list.old + length gates.now ≤ vec_capacity list.old }
+    ensures items { list.new.items ≡ list.old.items ++ gates.now }
+    ensures capacity { vec_capacity list.new ≡ vec_capacity list.old }
+{
+    for gate in gates {
+        list.push_reserved(*gate);
+    }
+}
+
+// The links of all these gates, where so many of them are linked.
+fn link_behind(links: &mut Links, gates: &[Gate], linked: usize)
+    requires within { linked ≤ length gates.now }
+    requires linked { AreLinked (take linked gates.now) links.old }
+    requires room { length gates.now ≤ links.old.room }
+    ensures linked { AreLinked gates.now links.new }
+    ensures room { links.new.room ≡ links.old.room }
+{
+    for place in linked..gates.len() {
+        links.push(&gates[..place], gates[place]);
     }
 }
 

@@ -57,6 +57,7 @@ impl<'r> Worked<'r> {
     /// Works the segment, whose gates are those of `input`, and leaves it empty for the next ones. The output of an improved
     /// segment is moved out of it, and the empty list `spare`, which has at least the segment's room, takes its place; where
     /// nothing was improved, `spare` is handed back. It takes no memory.
+    #[inline(never)]
     pub fn of_lent(
         rules: &'r Rules,
         ticket: u64,

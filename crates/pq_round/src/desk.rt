@@ -1,6 +1,6 @@
 ghost use Rattle.std.specs.Prelude.{◌≡◌, ◌≤◌, [], length, cond, Some, None, IfOk, IfSome};
 ghost use Rattle.pq_limits.specs.declared.TheConstants.{MAX_SEGMENT};
-ghost use Rattle.pq_round.specs.Results.{IsResultOf};
+ghost use Rattle.pq_round.specs.Results.{IsResultOf, gates_at};
 ghost use Rattle.pq_round.specs.Desks.{HasRoomFor, IsSpare};
 
 use pq_array::Cells;
@@ -56,12 +56,23 @@ impl Desk {
         ensures kept { seg.new.room ≡ seg.old.room }
     {
         let Desk { mut input, spare } = self;
-        for place in places {
-            if let Some(gate) = cells.gate_at(*place) {
-                input.push_kept(gate);
-                seg.push(gate);
-            }
-        }
+        put_gates(&mut input, cells, places);
+        seg.extend(input.as_slice());
         Worked::of_lent(rules, ticket, input, seg, spare)
+    }
+}
+
+/// Puts the gates at these places into an empty list, in order.
+fn put_gates(list: &mut GateList, cells: &Cells, places: &[u64])
+    requires empty { list.old.items ≡ [] }
+    requires room { length places.now ≤ list.old.room }
+    ensures items { list.new.items ≡ gates_at cells.now places.now }
+    ensures few { length list.new.items ≤ length places.now }
+    ensures room { list.new.room ≡ list.old.room }
+{
+    for place in places {
+        if let Some(gate) = cells.gate_at(*place) {
+            list.push_kept(gate);
+        }
     }
 }

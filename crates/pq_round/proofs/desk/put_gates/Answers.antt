@@ -2,10 +2,10 @@ use Rattle.std.proofs.Common.{arith, ◌≡◌, ◌+◌, ◌<◌, ◌++◌, ◌�
 use Rattle.std.proofs.lemmas.List.{length_push}
 use Rattle.pq_round.specs.Results.{gates_at}
 use Rattle.pq_round.proofs.Gathering.{gates_more_some, gates_more_none}
-use Rattle.pq_round.proofs.desk.Desk.work.Goals as goal
-use Rattle.pq_round.proofs.desk.Desk.work.Goals.{in-Some, in_default}
+use Rattle.pq_round.proofs.desk.put_gates.Goals as goal
+use Rattle.pq_round.proofs.desk.put_gates.Goals.{in-Some, in_default}
 
--- a gate goes into both lists, and a tombstone into neither
+-- a gate goes into the list, and a tombstone doesn't
 pub loop-place-preserved : goal.loop-place-preserved
 loop-place-preserved c = elim c.match-gate_at.branch [
   | in-Some w ↦
@@ -14,15 +14,12 @@ loop-place-preserved c = elim c.match-gate_at.branch [
       let more : gates_at c.args.cells.now (take (c.loop-place.place-index + 1) c.args.places.now)
       ≡ gates_at c.args.cells.now (take c.loop-place.place-index c.args.places.now) ++ w.in-Some.gate ∷ [] =
       gates_more_some c.args.cells.now c.args.places.now c.loop-place.place-index w.in-Some.gate below at in
-      let one : length (c.loop-place.input.items ++ w.in-Some.gate ∷ []) ≡ length c.loop-place.input.items + 1 = length_push c.loop-place.input.items w.in-Some.gate in
-      let longer : length c.match-gate_at.input.items ≡ length c.loop-place.input.items + 1 = cc in
-      let room : c.match-gate_at.input.room ≡ c.loop-place.input.room = cc in
-      let seg_room : c.match-gate_at.seg.room ≡ c.loop-place.seg.room = cc in
+      let one : length (c.loop-place.list.items ++ w.in-Some.gate ∷ []) ≡ length c.loop-place.list.items + 1 = length_push c.loop-place.list.items w.in-Some.gate in
+      let longer : length c.match-gate_at.list.items ≡ length c.loop-place.list.items + 1 = cc in
+      let room : c.match-gate_at.list.room ≡ c.loop-place.list.room = cc in
       record {
         gathered = cc;
-        same = cc;
-        input_room = omega (arith, room, c.loop-place.invariant.input_room);
-        seg_room = seg_room ∙ c.loop-place.invariant.seg_room;
+        room = room ∙ c.loop-place.invariant.room;
         few = omega (arith, longer, c.loop-place.invariant.few);
       }
   | in_default w ↦
@@ -31,14 +28,11 @@ loop-place-preserved c = elim c.match-gate_at.branch [
       let more : gates_at c.args.cells.now (take (c.loop-place.place-index + 1) c.args.places.now)
       ≡ gates_at c.args.cells.now (take c.loop-place.place-index c.args.places.now) =
       gates_more_none c.args.cells.now c.args.places.now c.loop-place.place-index below at in
-      let longer : length c.match-gate_at.input.items ≡ length c.loop-place.input.items = cc in
-      let room : c.match-gate_at.input.room ≡ c.loop-place.input.room = cc in
-      let seg_room : c.match-gate_at.seg.room ≡ c.loop-place.seg.room = cc in
+      let longer : length c.match-gate_at.list.items ≡ length c.loop-place.list.items = cc in
+      let room : c.match-gate_at.list.room ≡ c.loop-place.list.room = cc in
       record {
         gathered = cc;
-        same = cc;
-        input_room = omega (arith, room, c.loop-place.invariant.input_room);
-        seg_room = seg_room ∙ c.loop-place.invariant.seg_room;
+        room = room ∙ c.loop-place.invariant.room;
         few = omega (arith, longer, c.loop-place.invariant.few);
       }
 ]
