@@ -115,6 +115,7 @@ impl Links {
     }
 
     /// Appends a gate.
+    #[inline(always)]
     pub fn push(&mut self, gates: &[Gate], gate: Gate)
         requires linked { AreLinked gates.now self.old }
         requires room { length gates.now < self.old.room }
