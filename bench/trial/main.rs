@@ -65,8 +65,8 @@ fn work<'r>(rules: &'r Rules, seg: &mut Seg, gates: &[Gate], room: u32) -> Worke
     let spare = GateList::with_room(Global, room).unwrap();
     for gate in gates {
         input.push_kept(*gate);
-        seg.push(*gate);
     }
+    seg.extend(input.as_slice());
     Worked::of_lent(rules, 0, input, seg, spare).0
 }
 
